@@ -1,0 +1,4 @@
+pub mod Windows
+pub mod Each
+pub mod Guards
+pub mod Caches
