@@ -135,7 +135,7 @@ fn add_fill(spot: Spot, plan: &mut Plan, fill: Fill) -> Result<(), Trouble> {
 }
 
 // Adds what a building line says to the plan.
-pub fn read(spot: Spot, plan: &mut Plan, line: &str) -> Result<(), Trouble> {
+pub(super) fn read(spot: Spot, plan: &mut Plan, line: &str) -> Result<(), Trouble> {
     match line.split_whitespace().next() {
         Some("flat") => set_source(spot, plan, flat(spot, line)?),
         Some("raw") => set_source(spot, plan, raw(spot, line)?),

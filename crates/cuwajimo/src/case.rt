@@ -24,7 +24,7 @@ pub struct Case {
 }
 
 impl Case {
-    pub fn new(heap: Global) -> Case {
+    pub(super) fn new(heap: Global) -> Case {
         Case {
             plan: Plan::new(heap),
             calls: Vec::new(heap),

@@ -60,7 +60,7 @@ fn apply_all<S: Store + Mark>(image: &mut S, fills: &[Fill]) {
 }
 
 // Fills the image and marks its blocks, protected or not. An image that is refused has no blocks to fill.
-pub fn prepare(medium: &mut Medium, fills: &[Fill]) {
+pub(super) fn prepare(medium: &mut Medium, fills: &[Fill]) {
     match medium {
         Medium::Flat { bytes, damage } => {
             if let Ok(mut image) = FlatImage::open(

@@ -75,7 +75,7 @@ fn contents(rt: &LibcRuntime, line: u32, path: &str) -> Result<Vec<u8>, Trouble>
 }
 
 // Brings the image into memory.
-pub fn load(rt: &LibcRuntime, source: &Source) -> Result<Medium, Trouble> {
+pub(super) fn load(rt: &LibcRuntime, source: &Source) -> Result<Medium, Trouble> {
     match source {
         Source::Flat { blocks } => flat(rt, *blocks),
         Source::FlatFiles {

@@ -109,7 +109,7 @@ fn over_cache<S: Store + Drop>(
 }
 
 // Does a job on the pile that the plan asks for, or says why its image is refused.
-pub fn on_pile(
+pub(super) fn on_pile(
     rt: &LibcRuntime,
     plan: &Plan,
     medium: &mut Medium,

@@ -67,7 +67,7 @@ pub struct Plan {
 
 impl Plan {
     // No image, no layer, no unit.
-    pub fn new(heap: Global) -> Plan {
+    pub(super) fn new(heap: Global) -> Plan {
         Plan {
             source: None,
             fills: Vec::new(heap),

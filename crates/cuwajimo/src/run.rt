@@ -34,7 +34,7 @@ fn check_file(rt: &LibcRuntime, line: u32, path: &str) -> Result<(), Trouble> {
 }
 
 // That the files of every case can be opened.
-pub fn check_files(rt: &LibcRuntime, cases: &[Case]) -> Result<(), Trouble> {
+pub(super) fn check_files(rt: &LibcRuntime, cases: &[Case]) -> Result<(), Trouble> {
     for case in cases {
         match &case.plan.source {
             Some(
@@ -179,7 +179,7 @@ fn run_case(rt: &LibcRuntime, case: &Case) -> Result<(), Trouble> {
 }
 
 // Carries out each case in turn.
-pub fn run(rt: &LibcRuntime, cases: &[Case]) -> Result<(), Trouble> {
+pub(super) fn run(rt: &LibcRuntime, cases: &[Case]) -> Result<(), Trouble> {
     for case in cases {
         run_case(rt, case)?;
     }

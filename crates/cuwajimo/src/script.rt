@@ -56,7 +56,7 @@ fn read_line(spot: Spot, case: &mut Case, line: &str) -> Result<(), Trouble> {
 }
 
 // The cases of a script. It is read whole before any of it is carried out.
-pub fn cases(heap: Global, text: &str) -> Result<Vec<Case>, Trouble> {
+pub(super) fn cases(heap: Global, text: &str) -> Result<Vec<Case>, Trouble> {
     let mut cases = Vec::new(heap);
     let mut case = Case::new(heap);
     let mut line = 0u32;

@@ -51,7 +51,7 @@ pub struct Spot {
 
 impl Spot {
     // The trouble with this line, in these words.
-    pub fn trouble(self, what: &str) -> Trouble {
+    pub(super) fn trouble(self, what: &str) -> Trouble {
         match String::from_str(self.heap, what) {
             Ok(what) => Trouble::Line {
                 line: self.line,
@@ -62,7 +62,7 @@ impl Spot {
     }
 
     // The trouble with this line, about a word of it.
-    pub fn about(self, what: &str, word: &str) -> Trouble {
+    pub(super) fn about(self, what: &str, word: &str) -> Trouble {
         match format!(self.heap, "{what} '{word}'") {
             Ok(what) => Trouble::Line {
                 line: self.line,
@@ -73,7 +73,7 @@ impl Spot {
     }
 
     // A file that could not be read or written.
-    pub fn file(self, what: &str, path: &str, error: io::Error) -> Trouble {
+    pub(super) fn file(self, what: &str, path: &str, error: io::Error) -> Trouble {
         match format!(self.heap, "{what} '{path}': {error}") {
             Ok(what) => Trouble::Line {
                 line: self.line,

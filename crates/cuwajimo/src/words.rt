@@ -2,7 +2,7 @@ use super::trouble::Spot;
 use super::trouble::Trouble;
 
 // A word that has to be there.
-pub fn word<'a>(spot: Spot, next: Option<&'a str>) -> Result<&'a str, Trouble> {
+pub(super) fn word<'a>(spot: Spot, next: Option<&'a str>) -> Result<&'a str, Trouble> {
     match next {
         Some(word) => Ok(word),
         None => Err(spot.trouble("a word is missing")),
@@ -10,7 +10,7 @@ pub fn word<'a>(spot: Spot, next: Option<&'a str>) -> Result<&'a str, Trouble> {
 }
 
 // A decimal number that fits.
-pub fn number(spot: Spot, next: Option<&str>) -> Result<u32, Trouble> {
+pub(super) fn number(spot: Spot, next: Option<&str>) -> Result<u32, Trouble> {
     let word = word(spot, next)?;
     match word.parse::<u32>() {
         Ok(n) => Ok(n),
@@ -19,7 +19,7 @@ pub fn number(spot: Spot, next: Option<&str>) -> Result<u32, Trouble> {
 }
 
 // A decimal number that fits a byte.
-pub fn byte(spot: Spot, next: Option<&str>) -> Result<u8, Trouble> {
+pub(super) fn byte(spot: Spot, next: Option<&str>) -> Result<u8, Trouble> {
     let word = word(spot, next)?;
     match word.parse::<u8>() {
         Ok(n) => Ok(n),
@@ -28,7 +28,7 @@ pub fn byte(spot: Spot, next: Option<&str>) -> Result<u8, Trouble> {
 }
 
 // Nothing more may stand on the line.
-pub fn end(spot: Spot, next: Option<&str>) -> Result<(), Trouble> {
+pub(super) fn end(spot: Spot, next: Option<&str>) -> Result<(), Trouble> {
     match next {
         None => Ok(()),
         Some(word) => Err(spot.about("a word too many:", word)),
@@ -36,6 +36,6 @@ pub fn end(spot: Spot, next: Option<&str>) -> Result<(), Trouble> {
 }
 
 // Whether a word is a number: then an image is in memory, else it is in a file of that name.
-pub fn is_number(word: &str) -> bool {
+pub(super) fn is_number(word: &str) -> bool {
     word.parse::<u32>().is_ok()
 }

@@ -7,19 +7,24 @@ use store::fault::StoreFaultPartialEq;
 use store::store::Store;
 
 // Whether a call was refused with this fault.
-pub fn refused(answer: Result<(), StoreFault>, kind: FaultKind, block: u32) -> bool {
+pub(super) fn refused(answer: Result<(), StoreFault>, kind: FaultKind, block: u32) -> bool {
     answer == Err(StoreFault { kind, block })
 }
 
 // Whether a block is sound with this byte all over.
-pub fn reads<S: Store>(store: &mut S, block: u32, byte: u8) -> bool {
+pub(super) fn reads<S: Store>(store: &mut S, block: u32, byte: u8) -> bool {
     let mut buffer = [!byte; 256];
     let answer = store.read(block, &mut buffer);
     answer == Ok(()) && buffer == [byte; 256]
 }
 
 // Whether a read is refused with this fault, and leaves the buffer.
-pub fn read_refused<S: Store>(store: &mut S, block: u32, length: usize, kind: FaultKind) -> bool {
+pub(super) fn read_refused<S: Store>(
+    store: &mut S,
+    block: u32,
+    length: usize,
+    kind: FaultKind,
+) -> bool {
     let mut buffer = [7u8; 300];
     if length > 300 {
         return false;
@@ -29,23 +34,23 @@ pub fn read_refused<S: Store>(store: &mut S, block: u32, length: usize, kind: Fa
 }
 
 // Whether a write of this byte all over is taken.
-pub fn writes<S: Store>(store: &mut S, block: u32, byte: u8) -> bool {
+pub(super) fn writes<S: Store>(store: &mut S, block: u32, byte: u8) -> bool {
     store.write(block, &[byte; 256]) == Ok(())
 }
 
-pub fn write_refused<S: Store>(store: &mut S, block: u32, kind: FaultKind) -> bool {
+pub(super) fn write_refused<S: Store>(store: &mut S, block: u32, kind: FaultKind) -> bool {
     refused(store.write(block, &[9u8; 256]), kind, block)
 }
 
-pub fn is_open<S: Store>(store: &S, block: u32) -> bool {
+pub(super) fn is_open<S: Store>(store: &S, block: u32) -> bool {
     store.protection(block) == Ok(Protection::Open)
 }
 
-pub fn is_protected<S: Store>(store: &S, block: u32) -> bool {
+pub(super) fn is_protected<S: Store>(store: &S, block: u32) -> bool {
     store.protection(block) == Ok(Protection::Protected)
 }
 
-pub fn is_beyond<S: Store>(store: &S, block: u32) -> bool {
+pub(super) fn is_beyond<S: Store>(store: &S, block: u32) -> bool {
     store.protection(block)
         == Err(StoreFault {
             kind: FaultKind::Beyond,
@@ -54,6 +59,6 @@ pub fn is_beyond<S: Store>(store: &S, block: u32) -> bool {
 }
 
 // Whether a byte of some memory is this one.
-pub fn has(bytes: &[u8], at: usize, byte: u8) -> bool {
+pub(super) fn has(bytes: &[u8], at: usize, byte: u8) -> bool {
     bytes.get(at).copied() == Some(byte)
 }
