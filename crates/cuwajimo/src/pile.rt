@@ -14,8 +14,8 @@ use layer::guard::WriteGuard;
 use layer::guard::WriteGuardStore;
 use layer::window::Window;
 use layer::window::WindowStore;
+use store::calls::fetch_block;
 use store::calls::settle_down;
-use store::fault::BLOCK_BYTES;
 use store::fault::Protection;
 use store::store::Store;
 
@@ -28,7 +28,6 @@ pub enum Job {
 
 // Shows one block of a store.
 fn show_block<S: Store>(rt: &LibcRuntime, store: &mut S, block: u32) -> Result<(), Trouble> {
-    let mut bytes = [0u8; BLOCK_BYTES];
     let protection = match store.protection(block) {
         Ok(Protection::Open) => "open",
         Ok(Protection::Protected) => "protected",
@@ -37,8 +36,8 @@ fn show_block<S: Store>(rt: &LibcRuntime, store: &mut S, block: u32) -> Result<(
             return Ok(());
         }
     };
-    match store.read(block, &mut bytes) {
-        Ok(()) => {
+    match fetch_block(store, block) {
+        Ok(bytes) => {
             let sum = fnv1a(&bytes);
             println!(rt, "block {block}: sound {sum:016x}, {protection}")?;
         }

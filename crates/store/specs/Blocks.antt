@@ -62,6 +62,18 @@ buffer-at buffer (Some k) = buffer-of buffer (k .contents)
 abbrev pub read-buffer : List Block → ℕ → List ℕ → List ℕ
 read-buffer bs b buffer = if-whole buffer (buffer-at buffer (nth bs b)) buffer
 
+-- A block's bytes by themselves, for whoever lends no buffer: those of a sound block, else the fault of a read.
+abbrev pub fetched-of : ℕ → Contents → Result (List ℕ) StoreFault
+fetched-of b (sound bytes) = Ok bytes
+fetched-of b damaged = Err (fault kinds.Damaged b)
+
+abbrev pub fetched-at : ℕ → Option Block → Result (List ℕ) StoreFault
+fetched-at b None = Err (fault kinds.Beyond b)
+fetched-at b (Some k) = fetched-of b (k .contents)
+
+abbrev pub fetched : List Block → ℕ → Result (List ℕ) StoreFault
+fetched bs b = fetched-at b (nth bs b)
+
 -- Write: an open block takes the bytes, a protected one is the fault "protected".
 abbrev pub write-of : ℕ → Protection → Result (Unit {0}) StoreFault
 write-of b protections.Open = Ok tt
