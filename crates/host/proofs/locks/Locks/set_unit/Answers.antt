@@ -1,0 +1,6 @@
+use borrow.Author.Needs.{needs}
+use Rattle.std.proofs.shelf.Lists.{set-past}
+use Rattle.host.proofs.locks.Locks.set_unit.Needs as need
+
+pub returns-else-from-lt-UNITS : need.returns-else-from-lt-UNITS
+returns-else-from-lt-UNITS c = search (needs, set-past)

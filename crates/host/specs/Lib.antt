@@ -1,0 +1,4 @@
+pub mod Hosts
+pub mod Waits
+pub mod Messages
+pub mod Progress
