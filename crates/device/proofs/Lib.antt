@@ -13,8 +13,10 @@ pub mod Own
 pub mod Others
 pub mod Runs
 pub mod Laws
+pub mod Refusals
 pub mod Moving
 pub mod Sample
+pub mod Small
 pub mod ReadTurns
 pub mod WriteTurns
 pub mod NoHost

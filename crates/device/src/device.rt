@@ -6,7 +6,9 @@ ghost use Rattle.device.specs.Calls.{command, segment, report, cancel, clear, 
 ghost use Rattle.device.specs.Device.{state-of, after, taken, parameters-of, locks-of, power-on as at-power-on};
 ghost use Rattle.device.specs.Isolation.{Isolation-from};
 ghost use Rattle.device.specs.Laws.{Apartness-from, Exclusion-from, Waits-from};
+ghost use Rattle.device.specs.Refusals.{Refusals-from};
 ghost use Rattle.device.specs.Sample.{Sampled};
+ghost use Rattle.device.specs.Small.{Table};
 use super::controller::Controller;
 use super::controller::HOSTS;
 use super::fit::executable;
@@ -295,15 +297,17 @@ impl<S: Store> Device<S> {
 }
 
 // Builds a device of that number over a store, at power on.
-// Of every device so built: isolation, in the form asked for and in a stronger one; exclusion; that no wait outlives its cause;
-// and that there are runs that meet all that isolation asks for.
+// Of every device so built: isolation, in the form asked for and in a stronger one; exclusion; that no wait outlives its cause; what a refused call leaves;
+// that there are runs that meet all that isolation asks for; and a table of what messages come to on a small device.
 pub fn power_on<S: Store>(number: u32, map: UnitMap, store: S) -> Device<S>
     ensures made { λ r. ⌜ state-of (r .controller) (S·Store .blocks (r .store)) ≡ at-power-on number map (S·Store .blocks store) ⌝ }
     ensures isolation { λ r. ⌜ Isolation-from (state-of (r .controller) (S·Store .blocks (r .store))) ⌝ }
     ensures apartness { λ r. ⌜ Apartness-from (state-of (r .controller) (S·Store .blocks (r .store))) ⌝ }
     ensures exclusion { λ r. ⌜ Exclusion-from (state-of (r .controller) (S·Store .blocks (r .store))) ⌝ }
     ensures waits { λ r. ⌜ Waits-from (state-of (r .controller) (S·Store .blocks (r .store))) ⌝ }
+    ensures refusals { λ r. ⌜ Refusals-from (state-of (r .controller) (S·Store .blocks (r .store))) ⌝ }
     ensures sampled { λ _. ⌜ Sampled ⌝ }
+    ensures table { λ _. ⌜ Table ⌝ }
 {
     let controller = Controller {
         number,

@@ -12,7 +12,9 @@ use Rattle.device.specs.Isolation.{Isolation-from}
 use Rattle.device.specs.Laws.{Apartness-from, Exclusion-from, Waits-from}
 use Rattle.device.proofs.Laws.{exclusion, waits}
 use Rattle.device.proofs.Runs.{isolation, apartness}
+use Rattle.device.proofs.Refusals.{refusals-from}
 use Rattle.device.proofs.Sample.{sampled}
+use Rattle.device.proofs.Small.{small-device}
 use Rattle.device.proofs.device.power_on.Needs as need
 
 abbrev built : ℕ → UnitMap → List Block → Host → Mail → State
@@ -30,5 +32,7 @@ returns g c =
       apartness = subst Apartness-from (sym made) (apartness n map bs);
       exclusion = subst Exclusion-from (sym made) (exclusion n map bs);
       waits = subst Waits-from (sym made) (waits n map bs);
+      refusals = refusals-from _;
       sampled = sampled;
+      table = small-device;
     }
