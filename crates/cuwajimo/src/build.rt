@@ -2,7 +2,6 @@ use super::plan::Fill;
 use super::plan::Plan;
 use super::plan::Run;
 use super::plan::Source;
-use super::plan::UnitLine;
 use super::trouble::Spot;
 use super::trouble::Trouble;
 use super::trouble::TroubleFromAlloc;
@@ -11,7 +10,10 @@ use super::words::byte;
 use super::words::end;
 use super::words::is_number;
 use super::words::number;
+use super::words::short;
 use super::words::word;
+use flex::geometry::Geometry;
+use flex::unit::Unit;
 use store::fault::Protection;
 
 // `flat N`, or `flat DATA MAP`.
@@ -88,19 +90,19 @@ fn run(spot: Spot, line: &str, earlier: Option<Run>) -> Result<Option<Run>, Trou
 }
 
 // `unit F C D S`
-fn unit(spot: Spot, line: &str) -> Result<UnitLine, Trouble> {
+fn unit(spot: Spot, line: &str) -> Result<Unit, Trouble> {
     let mut words = line.split_whitespace().skip(1);
     let first = number(spot, words.next())?;
-    let cylinders = number(spot, words.next())?;
-    let heads = number(spot, words.next())?;
-    let sectors = number(spot, words.next())?;
+    let cylinders = short(spot, words.next())?;
+    let heads = byte(spot, words.next())?;
+    let sectors = byte(spot, words.next())?;
     end(spot, words.next())?;
-    Ok(UnitLine {
-        first,
+    let geometry = Geometry {
         cylinders,
         heads,
         sectors,
-    })
+    };
+    Ok(Unit { first, geometry })
 }
 
 // A line with one number after its first word.

@@ -1,33 +1,41 @@
+use super::call::Call;
 use super::plan::Plan;
+use super::trouble::Trouble;
+use super::trouble::TroubleFromRefused;
 use std::alloc::Global;
 
-// A call on what the building lines built.
-#[derive(Clone, Copy)]
-pub enum Act {
-    Off,
-    Blocks { first: u32, count: u32 },
-    Save,
-}
-
-// A call, and the line that it stands on.
-#[derive(Clone, Copy)]
-pub struct Call {
-    pub line: u32,
-    pub act: Act,
-}
-
-// What stands between two `reset` lines: the building lines, and then the calls.
+// What stands between two `reset` lines: the building lines, the calls before the first `off`, and the calls from it on.
 #[derive(Drop)]
 pub struct Case {
     pub plan: Plan,
-    pub calls: Vec<Call>,
+    pub on: Vec<Call>,
+    pub off: Vec<Call>,
 }
 
 impl Case {
     pub(super) fn new(heap: Global) -> Case {
         Case {
             plan: Plan::new(heap),
-            calls: Vec::new(heap),
+            on: Vec::new(heap),
+            off: Vec::new(heap),
         }
+    }
+
+    // The first call, if any.
+    pub(super) fn first(&self) -> Option<&Call> {
+        match self.on.first() {
+            Some(call) => Some(call),
+            None => self.off.first(),
+        }
+    }
+
+    // Adds a call after those that are there.
+    pub(super) fn add(&mut self, call: Call) -> Result<(), Trouble> {
+        if call.act.is_off() || !self.off.is_empty() {
+            self.off.push(call)?;
+        } else {
+            self.on.push(call)?;
+        }
+        Ok(())
     }
 }

@@ -1,13 +1,18 @@
-// Runs a script on an image under a window, a write guard and a cache, and prints what it answers.
+// Runs a script on a device over an image under a window, a write guard and a cache, and prints what it answers.
+mod buffer;
 mod build;
+mod call;
 mod case;
+mod desk;
 mod fill;
 mod fnv;
 mod medium;
 mod pile;
 mod plan;
 mod run;
+mod say;
 mod script;
+mod session;
 mod trouble;
 mod words;
 

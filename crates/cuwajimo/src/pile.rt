@@ -1,6 +1,9 @@
+use super::case::Case;
 use super::fnv::fnv1a;
 use super::medium::Medium;
-use super::plan::Plan;
+use super::session::Ended;
+use super::session::Outcome;
+use super::session::serve;
 use super::trouble::Trouble;
 use super::trouble::TroubleFromIo;
 use image::flat::FlatImage;
@@ -8,6 +11,7 @@ use image::flat::FlatStore;
 use image::raw::RawImage;
 use image::raw::RawStore;
 use image::refusal::Refusal;
+use image::refusal::RefusalDisplay;
 use layer::cache::Cache;
 use layer::cache::CacheStore;
 use layer::guard::WriteGuard;
@@ -15,14 +19,13 @@ use layer::guard::WriteGuardStore;
 use layer::window::Window;
 use layer::window::WindowStore;
 use store::calls::fetch_block;
-use store::calls::settle_down;
 use store::fault::Protection;
 use store::store::Store;
 
-// What is done with the pile while it stands.
+// What is done with the pile while it stands: a device over it answers the calls before `off`, or its blocks are shown.
 #[derive(Clone, Copy)]
 pub enum Job {
-    Settle,
+    Serve,
     Show { first: u32, count: u32 },
 }
 
@@ -57,71 +60,84 @@ fn show<S: Store>(rt: &LibcRuntime, store: &mut S, first: u32, count: u32) -> Re
     Ok(())
 }
 
-fn perform<S: Store>(rt: &LibcRuntime, store: &mut S, job: Job) -> Result<(), Trouble> {
+// Does the job on the whole pile, and hands it back.
+fn perform<S: Store>(rt: &LibcRuntime, case: &Case, mut store: S, job: Job) -> Ended<S> {
     match job {
-        Job::Settle => {
-            settle_down(store);
-            Ok(())
+        Job::Serve => serve(rt, case, store),
+        Job::Show { first, count } => {
+            let shown = show(rt, &mut store, first, count);
+            Ended {
+                store,
+                outcome: match shown {
+                    Ok(()) => Ok(Outcome::Served),
+                    Err(trouble) => Err(trouble),
+                },
+            }
         }
-        Job::Show { first, count } => show(rt, store, first, count),
     }
 }
 
 // The layers that the plan asks for, from the bottom up: window, write guard, cache.
 fn over_window<S: Store + Drop>(
     rt: &LibcRuntime,
-    plan: &Plan,
+    case: &Case,
     below: S,
     job: Job,
-) -> Result<(), Trouble> {
-    match plan.window {
-        Some(run) => over_guard(rt, plan, Window::new(below, run.first, run.count), job),
-        None => over_guard(rt, plan, below, job),
+) -> Result<Outcome, Trouble> {
+    match case.plan.window {
+        Some(run) => over_guard(rt, case, Window::new(below, run.first, run.count), job),
+        None => over_guard(rt, case, below, job),
     }
 }
 
 fn over_guard<S: Store + Drop>(
     rt: &LibcRuntime,
-    plan: &Plan,
+    case: &Case,
     below: S,
     job: Job,
-) -> Result<(), Trouble> {
-    match plan.guard {
-        Some(run) => over_cache(rt, plan, WriteGuard::new(below, run.first, run.count), job),
-        None => over_cache(rt, plan, below, job),
+) -> Result<Outcome, Trouble> {
+    match case.plan.guard {
+        Some(run) => over_cache(rt, case, WriteGuard::new(below, run.first, run.count), job),
+        None => over_cache(rt, case, below, job),
     }
 }
 
 fn over_cache<S: Store + Drop>(
     rt: &LibcRuntime,
-    plan: &Plan,
-    mut below: S,
+    case: &Case,
+    below: S,
     job: Job,
-) -> Result<(), Trouble> {
-    if !plan.cache {
-        return perform(rt, &mut below, job);
+) -> Result<Outcome, Trouble> {
+    if !case.plan.cache {
+        let Ended { store, outcome } = perform(rt, case, below, job);
+        drop(store);
+        return outcome;
     }
-    let mut cache = Cache::new(below);
-    let done = perform(rt, &mut cache, job);
-    drop(cache.release());
-    done
+    let Ended { store, outcome } = perform(rt, case, Cache::new(below), job);
+    drop(store.release());
+    outcome
+}
+
+fn refuse(rt: &LibcRuntime, refusal: Refusal) -> Result<Outcome, Trouble> {
+    println!(rt, "image: refused {refusal}")?;
+    Ok(Outcome::Refused)
 }
 
 // Does a job on the pile that the plan asks for, or says why its image is refused.
 pub(super) fn on_pile(
     rt: &LibcRuntime,
-    plan: &Plan,
+    case: &Case,
     medium: &mut Medium,
     job: Job,
-) -> Result<Option<Refusal>, Trouble> {
+) -> Result<Outcome, Trouble> {
     match medium {
         Medium::Flat { bytes, damage } => match FlatImage::open(
             bytes.as_mut_slice(),
             damage.as_mut_slice(),
-            plan.protection,
+            case.plan.protection,
         ) {
-            Ok(image) => over_window(rt, plan, image, job)?,
-            Err(refusal) => return Ok(Some(refusal)),
+            Ok(image) => over_window(rt, case, image, job),
+            Err(refusal) => refuse(rt, refusal),
         },
         Medium::Raw {
             bytes,
@@ -131,11 +147,10 @@ pub(super) fn on_pile(
             bytes.as_mut_slice(),
             spares.as_slice(),
             *records,
-            plan.protection,
+            case.plan.protection,
         ) {
-            Ok(image) => over_window(rt, plan, image, job)?,
-            Err(refusal) => return Ok(Some(refusal)),
+            Ok(image) => over_window(rt, case, image, job),
+            Err(refusal) => refuse(rt, refusal),
         },
     }
-    Ok(None)
 }

@@ -1,3 +1,4 @@
+use flex::unit::Unit;
 use std::alloc::Global;
 use store::fault::Protection;
 
@@ -6,15 +7,6 @@ use store::fault::Protection;
 pub struct Run {
     pub first: u32,
     pub count: u32,
-}
-
-// A unit as the script gives it. There is no device yet to hold it against its bounds.
-#[derive(Clone, Copy)]
-pub struct UnitLine {
-    pub first: u32,
-    pub cylinders: u32,
-    pub heads: u32,
-    pub sectors: u32,
 }
 
 // Where the image comes from.
@@ -60,7 +52,7 @@ pub struct Plan {
     pub window: Option<Run>,
     pub guard: Option<Run>,
     pub cache: bool,
-    pub units: Vec<UnitLine>,
+    pub units: Vec<Unit>,
     pub end: u32,
     pub device: u32,
 }

@@ -1,26 +1,18 @@
-use super::case::Act;
-use super::case::Call;
+use super::call::Act;
+use super::call::Call;
 use super::case::Case;
 use super::fill::prepare;
 use super::medium::Medium;
 use super::medium::load;
 use super::pile::Job;
 use super::pile::on_pile;
-use super::plan::Plan;
 use super::plan::Source;
+use super::say;
+use super::session::Outcome;
 use super::trouble::Spot;
 use super::trouble::Trouble;
 use super::trouble::TroubleFromIo;
-use image::refusal::RefusalDisplay;
 use std::fs;
-
-// How far a case has come.
-#[derive(Clone, Copy)]
-enum Stage {
-    On,
-    Off,
-    Refused,
-}
 
 // That a file can be opened, before anything is done.
 fn check_file(rt: &LibcRuntime, line: u32, path: &str) -> Result<(), Trouble> {
@@ -113,55 +105,55 @@ fn save(rt: &LibcRuntime, line: u32, source: &Source, medium: &Medium) -> Result
     Ok(())
 }
 
-fn off(rt: &LibcRuntime, plan: &Plan, medium: &mut Medium, stage: Stage) -> Result<Stage, Trouble> {
-    match stage {
-        Stage::On => {
-            on_pile(rt, plan, medium, Job::Settle)?;
-            println!(rt, "off: settled")?;
-            Ok(Stage::Off)
-        }
-        _ => {
-            println!(rt, "off: no device")?;
-            Ok(stage)
-        }
-    }
-}
-
-// One call, and how far the case has come with it.
-fn answer(
+// One call after the device is off.
+fn answer_off(
     rt: &LibcRuntime,
-    plan: &Plan,
+    case: &Case,
     source: &Source,
     medium: &mut Medium,
-    stage: Stage,
-    call: Call,
-) -> Result<Stage, Trouble> {
-    match (call.act, stage) {
-        (Act::Off, _) => return off(rt, plan, medium, stage),
-        (Act::Blocks { first, count }, Stage::Off) => {
-            on_pile(rt, plan, medium, Job::Show { first, count })?;
+    call: &Call,
+) -> Result<(), Trouble> {
+    match &call.act {
+        Act::Blocks { first, count } => {
+            let first = *first;
+            let count = *count;
+            on_pile(rt, case, medium, Job::Show { first, count })?;
+            Ok(())
         }
-        (Act::Save, Stage::Off) => save(rt, call.line, source, medium)?,
-        (Act::Blocks { first: _, count: _ }, _) => println!(rt, "blocks: no store")?,
-        (Act::Save, _) => println!(rt, "save: no store")?,
+        Act::Save => save(rt, call.line, source, medium),
+        act => say::nothing(rt, act),
     }
-    Ok(stage)
 }
 
-// The first call brings the image in, and says so if it is refused.
-fn begin(rt: &LibcRuntime, plan: &Plan, medium: &mut Medium) -> Result<Stage, Trouble> {
-    prepare(medium, plan.fills.as_slice());
-    match on_pile(rt, plan, medium, Job::Settle)? {
-        Some(refusal) => {
-            println!(rt, "image: refused {refusal}")?;
-            Ok(Stage::Refused)
-        }
-        None => Ok(Stage::On),
+// The calls from the first `off` on, of a case that had a device.
+fn finish(
+    rt: &LibcRuntime,
+    case: &Case,
+    source: &Source,
+    medium: &mut Medium,
+) -> Result<(), Trouble> {
+    if !case.off.is_empty() {
+        println!(rt, "off: settled")?;
     }
+    for call in case.off.iter().skip(1) {
+        answer_off(rt, case, source, medium, call)?;
+    }
+    Ok(())
+}
+
+// The calls of a case that has no device.
+fn decline(rt: &LibcRuntime, case: &Case) -> Result<(), Trouble> {
+    for call in case.on.iter() {
+        say::nothing(rt, &call.act)?;
+    }
+    for call in case.off.iter() {
+        say::nothing(rt, &call.act)?;
+    }
+    Ok(())
 }
 
 fn run_case(rt: &LibcRuntime, case: &Case) -> Result<(), Trouble> {
-    let Some(first) = case.calls.first() else {
+    let Some(first) = case.first() else {
         return Ok(());
     };
     let Some(source) = &case.plan.source else {
@@ -171,11 +163,11 @@ fn run_case(rt: &LibcRuntime, case: &Case) -> Result<(), Trouble> {
         }.trouble("a call, and no image to make it on"));
     };
     let mut medium = load(rt, source)?;
-    let mut stage = begin(rt, &case.plan, &mut medium)?;
-    for call in case.calls.iter() {
-        stage = answer(rt, &case.plan, source, &mut medium, stage, *call)?;
+    prepare(&mut medium, case.plan.fills.as_slice());
+    match on_pile(rt, case, &mut medium, Job::Serve)? {
+        Outcome::Served => finish(rt, case, source, &mut medium),
+        Outcome::Refused => decline(rt, case),
     }
-    Ok(())
 }
 
 // Carries out each case in turn.

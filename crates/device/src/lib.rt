@@ -1,6 +1,7 @@
 pub mod controller;
 pub mod device;
 mod fit;
+pub mod give_up;
 mod report;
 mod segment;
 mod table;
