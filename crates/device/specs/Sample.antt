@@ -1,4 +1,4 @@
--- A run that meets what the isolation theorem asks for: host 0 has unit 0 locked and writes there, host 1 writes to unit 1 and is refused unit 0.
+-- A run that meets what the isolation theorem asks for: host 0 has unit 0 locked and writes there, host 1 writes to unit 1 and asks twice for unit 0.
 use mathlib.Core.Path.{_≡_, refl}
 use mathlib.Core.List.{List, [], _∷_}
 use mathlib.Core.Logic.{_⊎_}
