@@ -60,7 +60,7 @@ impl<'a> RawImage<'a> {
     ) -> Result<RawImage<'a>, Refusal>
         ensures answer { result_err result ≡ raw_refusal (length bytes.old) spares.now records }
         ensures memory { IfOk result (λ image. (image.bytes.now ≡ bytes.old) × (image.spares.now ≡ spares.now) × (image.records ≡ records) × (image.protection ≡ protection)) }
-        ensures names { IfOk result (λ image. (image.bytes.ghost_name ≡ bytes.entry.ghost_name) × (image.spares.ghost_name ≡ spares.entry.ghost_name)) }
+        ensures names { IfOk result (λ image. (image.bytes.ghost_name ≡ bytes.entry.ghost_name) × (image.spares ≡ spares.entry)) }
         ensures blocks { MatchResult result (λ image. raw_meaning image ≡ raw_offered bytes.old spares.now records protection) (λ _. raw_offered bytes.old spares.now records protection ≡ []) }
         ensures law { MatchResult result (λ image. Layout spares.now records (length (raw_meaning image))) (SpareTold spares.now records) }
     {

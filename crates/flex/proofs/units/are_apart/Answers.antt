@@ -4,8 +4,8 @@ use Rattle.std.proofs.lemmas.Bool.Decides.{nat_tests}
 use Rattle.flex.specs.Units.{all_apart, apart, every, blank}
 use Rattle.flex.proofs.units.are_apart.Goals as goal
 
-pub returns-then-not-is-apart-from : goal.returns-then-not-is-apart-from
-returns-then-not-is-apart-from c =
+pub returns-then-not-is_apart_from : goal.returns-then-not-is_apart_from
+returns-then-not-is_apart_from c =
     let us = c.args.units.now in
     let i = c.loop-i.i in
     let t : take (length us - (i + 1)) (drop (i + 1) us) ≡ drop (i + 1) us = take_rest us (i + 1) in

@@ -4,8 +4,8 @@ use Rattle.std.proofs.lemmas.Bool.Decides.{nat_tests}
 use Rattle.flex.specs.Units.{counted, every, blank}
 use Rattle.flex.proofs.units.are_counted.Goals as goal
 
-pub returns-then-not-is-counted : goal.returns-then-not-is-counted
-returns-then-not-is-counted c =
+pub returns-then-not-is_counted : goal.returns-then-not-is_counted
+returns-then-not-is_counted c =
     let us = c.args.units.now in
     let i = c.loop-unit.unit-index in
     let e : every counted (drop i us) ≡ (counted (get_or us i blank) && every counted (drop (i + 1) us)) = at_drop_more (every counted) us i blank c.loop-unit-test.true in

@@ -4,8 +4,8 @@ use Rattle.std.proofs.lemmas.Bool.Decides.{nat_tests}
 use Rattle.flex.specs.Units.{inside, every, blank}
 use Rattle.flex.proofs.units.are_inside.Goals as goal
 
-pub returns-then-not-is-inside : goal.returns-then-not-is-inside
-returns-then-not-is-inside c =
+pub returns-then-not-is_inside : goal.returns-then-not-is_inside
+returns-then-not-is_inside c =
     let us = c.args.units.now in
     let i = c.loop-unit.unit-index in
     let e : every (inside c.args.end) (drop i us) ≡ ((inside c.args.end) (get_or us i blank) && every (inside c.args.end) (drop (i + 1) us)) = at_drop_more (every (inside c.args.end)) us i blank c.loop-unit-test.true in

@@ -4,8 +4,8 @@ use Rattle.std.proofs.lemmas.Bool.Decides.{nat_tests}
 use Rattle.flex.specs.Units.{apart, every, blank}
 use Rattle.flex.proofs.units.is_apart_from.Goals as goal
 
-pub returns-then-not-is-apart : goal.returns-then-not-is-apart
-returns-then-not-is-apart c =
+pub returns-then-not-is_apart : goal.returns-then-not-is_apart
+returns-then-not-is_apart c =
     let us = c.args.others.now in
     let i = c.loop-other.other-index in
     let e : every (apart c.args.unit) (drop i us) ≡ ((apart c.args.unit) (get_or us i blank) && every (apart c.args.unit) (drop (i + 1) us)) = at_drop_more (every (apart c.args.unit)) us i blank c.loop-other-test.true in

@@ -18,7 +18,7 @@ pub returns-in-Some-find : goal.returns-in-Some-find
 returns-in-Some-find g c =
     let s = c.args.self.now in
     let h = held g.S.Store.blocks s in
-    let missing = c.in-default.ensures.place in
+    let missing = c.in_default.ensures.place in
     let vacant = c.in-Some-find.ensures.place in
     record {
       place = ap (λ v. or_else v (turn_place s.turn)) vacant ∙ ap (λ o. or_else o (or_else (place s.slots None) (turn_place s.turn))) missing;

@@ -7,14 +7,14 @@ use Rattle.cache.proofs.SlotFacts.{first_place, first_kept, none_kept}
 use Rattle.cache.proofs.CacheFacts.{answers_at, shut_same, open_kept, unkept_same, keeping_again, read_anew, read_keeps, same_read, open_read}
 use Rattle.cache.proofs.cache.CacheStore.read.Goals as goal
 
-pub returns-then-not-is-open : goal.returns-then-not-is-open
-returns-then-not-is-open g c =
+pub returns-then-not-is_open : goal.returns-then-not-is_open
+returns-then-not-is_open g c =
     let s = c.args.self.now in
     let bs = g.S.Store.blocks s.below in
     let h = held g.S.Store.blocks s in
     let b = c.args.block in
     let buffer = c.args.buffer.now in
-    let shut = sym (c.if-not-is-open.ensures ∙ ap answers_open c.protection.ensures ∙ answers_at (slice_get bs b) b) in
+    let shut = sym (c.if-not-is_open.ensures ∙ ap answers_open c.protection.ensures ∙ answers_at (slice_get bs b) b) in
     let alike = same_read bs (means h) b buffer (sym (shut_same bs s.slots b shut)) in
     record {
       answer = c.read.ensures.answer ∙ alike.0;
@@ -36,17 +36,17 @@ returns-in-Some g c =
     let bytes = (get_or c.args.self.now.slots c.in-Some.place no_slot).bytes in
     let buffer = c.args.buffer.now in
     let own = sym c.in-Some.ensures.place in
-    let free = sym (c.if-not-is-open.ensures ∙ ap answers_open c.protection.ensures ∙ answers_at (slice_get bs b) b) in
+    let free = sym (c.if-not-is_open.ensures ∙ ap answers_open c.protection.ensures ∙ answers_at (slice_get bs b) b) in
     let whole : length (get_or c.args.self.now.slots c.in-Some.place no_slot).bytes ≡ 256 = search rules in
     let Kept-here = first_kept s.slots b p (first_place s.slots (Some b) p own) in
     let here = open_kept bs s.slots b bytes free Kept-here whole in
-    let got = open_read (means h) b buffer bytes c.if-buffer-ne-BLOCK-BYTES.false here in
+    let got = open_read (means h) b buffer bytes c.if-buffer-ne-BLOCK_BYTES.false here in
     record {
       answer = got.0;
-      buffer = c.copy-from-slice.ensures.after ∙ got.1;
+      buffer = c.copy_from_slice.ensures.after ∙ got.1;
       same = refl;
       held = sym (keeping_again h b p own) ∙ read_keeps h b buffer free (Ok tt) bytes got.0 got.1;
-      late = λ _ _. record { own = Kept-here ∙ ap Some (sym c.copy-from-slice.ensures.after); rest = inl (refl, λ i ne. refl) };
+      late = λ _ _. record { own = Kept-here ∙ ap Some (sym c.copy_from_slice.ensures.after); rest = inl (refl, λ i ne. refl) };
     }
 
 pub returns : goal.returns
@@ -56,8 +56,8 @@ returns g c =
     let h = held g.S.Store.blocks s in
     let b = c.args.block in
     let buffer = c.args.buffer.now in
-    let missing = none_kept s.slots b (sym c.in-default.ensures.place) in
-    let free = sym (c.if-not-is-open.ensures ∙ ap answers_open c.protection.ensures ∙ answers_at (slice_get bs b) b) in
+    let missing = none_kept s.slots b (sym c.in_default.ensures.place) in
+    let free = sym (c.if-not-is_open.ensures ∙ ap answers_open c.protection.ensures ∙ answers_at (slice_get bs b) b) in
     let alike = same_read bs (means h) b buffer (sym (unkept_same bs s.slots b missing)) in
     let answer = c.fetch.ensures.answer ∙ alike.0 in
     let got = c.fetch.ensures.buffer ∙ alike.1 in
@@ -68,7 +68,7 @@ returns g c =
           c.fetch.ensures.after
           ∙ ap (λ r. cond (is_ok r) (written (means h) b c.fetch.new.buffer) (means h)) c.fetch.ensures.answer
           ∙ ap (λ x. cond (is_ok (read_answer bs b buffer)) (written (means h) b x) (means h)) c.fetch.ensures.buffer
-          ∙ read_anew bs s.slots b buffer c.if-buffer-ne-BLOCK-BYTES.false free missing;
+          ∙ read_anew bs s.slots b buffer c.if-buffer-ne-BLOCK_BYTES.false free missing;
       held = c.fetch.ensures.held ∙ read_keeps h b buffer free c.fetch.result c.fetch.new.buffer answer got;
       late = λ ok _. c.fetch.ensures.late ok;
     }

@@ -20,8 +20,8 @@ loop-place-preserved g c =
     let inv = c.loop-place.invariant.0 in
     let last : c.loop-place.place ≡ (c.loop-place.place - 1) + 1 = omega arith in
     let few : c.loop-place.place ≤ length c.args.self.now.slots = omega (arith, c.loop-place.invariant.2, c.loop-place.invariant.3) in
-    let here = subst (λ l. WholeSlot (get_or l (p - 1) no_slot)) (ap (λ h. h.slots) inv) c.write-back.ensures.whole in (
-      c.write-back.ensures.held ∙ ap (λ h. written_back h (p - 1)) inv ∙ same_held refl (put_more bs s.slots p (p - 1) last few) refl,
+    let here = subst (λ l. WholeSlot (get_or l (p - 1) no_slot)) (ap (λ h. h.slots) inv) c.write_back.ensures.whole in (
+      c.write_back.ensures.held ∙ ap (λ h. written_back h (p - 1)) inv ∙ same_held refl (put_more bs s.slots p (p - 1) last few) refl,
       whole_more s.slots p (p - 1) last few here c.loop-place.invariant.1,
       omega (arith, c.loop-place.invariant.2),
       c.loop-place.invariant.3,

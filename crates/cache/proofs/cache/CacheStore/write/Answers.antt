@@ -11,7 +11,7 @@ returns-in-Ok g c =
     let h = held g.S.Store.blocks s in
     let b = c.args.block in
     let bytes = c.args.bytes.now in
-    let answer = c.in-Ok.ensures ∙ ap (λ r. admitted r b) c.protection.ensures ∙ admitted_write (g.S.Store.blocks s.below) s.slots b bytes c.if-bytes-ne-BLOCK-BYTES.false in
+    let answer = c.in-Ok.ensures ∙ ap (λ r. admitted r b) c.protection.ensures ∙ admitted_write (g.S.Store.blocks s.below) s.slots b bytes c.if-bytes-ne-BLOCK_BYTES.false in
     record {
       answer = answer;
       after = c.keep.ensures.after;
@@ -25,7 +25,7 @@ returns-in-Err g c =
     let h = held g.S.Store.blocks s in
     let b = c.args.block in
     let bytes = c.args.bytes.now in
-    let answer = c.in-Err.ensures ∙ ap (λ r. admitted r b) c.protection.ensures ∙ admitted_write (g.S.Store.blocks s.below) s.slots b bytes c.if-bytes-ne-BLOCK-BYTES.false in
+    let answer = c.in-Err.ensures ∙ ap (λ r. admitted r b) c.protection.ensures ∙ admitted_write (g.S.Store.blocks s.below) s.slots b bytes c.if-bytes-ne-BLOCK_BYTES.false in
     record {
       answer = answer;
       after = sym (refused_same (means h) b bytes c.in-Err.e (sym answer));

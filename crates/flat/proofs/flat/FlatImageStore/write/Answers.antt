@@ -5,8 +5,8 @@ use Rattle.flat.proofs.OneBit.{unmarks_one}
 use Rattle.flat.proofs.FlatBlocks.{in_map, flat_wrote, flat_writes}
 use Rattle.flat.proofs.flat.FlatImageStore.write.Goals as goal
 
-pub returns-in-err-number : goal.returns-in-err-number
-returns-in-err-number c =
+pub returns-in_err-number : goal.returns-in_err-number
+returns-in_err-number c =
     let s = c.args.self.now in
     let e = flat_writes s.bytes.now s.damage.now s.protection c.args.block c.args.bytes.now in
     search rules
@@ -29,7 +29,7 @@ returns c =
     let s = c.args.self.now in
     let h : c.args.block < flat_size (length s.bytes.now) (length s.damage.now) = search rules in
     let w : length c.args.bytes.now ≡ 256 = search rules in
-    let e = flat_wrote s.bytes.now s.damage.now s.protection c.args.block c.args.bytes.now h w c.in-default.is in
+    let e = flat_wrote s.bytes.now s.damage.now s.protection c.args.block c.args.bytes.now h w c.in_default.is in
     let g = unmarks_one s.damage.now c.args.block (in_map (length s.bytes.now) (length s.damage.now) c.args.block h) in
     let l = laid_over s.bytes.now (256 * c.args.block) (256 * c.args.block + 256 - 256 * c.args.block) c.args.bytes.now (omega arith) in
     search rules

@@ -7,7 +7,7 @@ pub returns-then-block-size : goal.returns-then-block-size
 returns-then-block-size g c =
     let s = c.args.self.now in
     let bs = g.S.Store.blocks s.below in
-    let whole = c.if-bytes-ne-BLOCK-BYTES.false in
+    let whole = c.if-bytes-ne-BLOCK_BYTES.false in
     record {
       answer = past_write bs s.first s.count c.args.block c.args.bytes.now whole (omega (arith, c.size.ensures));
       after = past_written bs s.first s.count c.args.block c.args.bytes.now whole (omega (arith, c.size.ensures));
@@ -20,7 +20,7 @@ pub returns-then-covers : goal.returns-then-covers
 returns-then-covers g c =
     let s = c.args.self.now in
     let bs = g.S.Store.blocks s.below in
-    let whole = c.if-bytes-ne-BLOCK-BYTES.false in
+    let whole = c.if-bytes-ne-BLOCK_BYTES.false in
     let run = sym c.if-covers.ensures in
     record {
       answer = run_write bs s.first s.count c.args.block c.args.bytes.now whole (omega (arith, c.size.ensures)) run;
@@ -34,7 +34,7 @@ pub returns : goal.returns
 returns g c =
     let s = c.args.self.now in
     let bs = g.S.Store.blocks s.below in
-    let whole = c.if-bytes-ne-BLOCK-BYTES.false in
+    let whole = c.if-bytes-ne-BLOCK_BYTES.false in
     let free = sym c.if-covers.ensures in
     let after = c.write.ensures.after in
     record {

@@ -10,7 +10,7 @@ returns-in-Some g c =
     let b = c.args.block in
     let at = c.in-Some.at in
     let found = c.in-Some.ensures in
-    let whole = c.if-buffer-ne-BLOCK-BYTES.false in
+    let whole = c.if-buffer-ne-BLOCK_BYTES.false in
     record {
       answer = c.renumber.ensures ∙ ap (λ r. renumbered r b) c.read.ensures.answer ∙ window_read bs s.first s.count b at found c.args.buffer.now whole;
       buffer = c.read.ensures.buffer ∙ window_buffer bs s.first s.count b at found c.args.buffer.now whole;
@@ -24,7 +24,7 @@ returns-in-None g c =
     let s = c.args.self.now in
     let bs = g.S.Store.blocks s.below in
     let past = c.in-None.ensures in
-    let whole = c.if-buffer-ne-BLOCK-BYTES.false in
+    let whole = c.if-buffer-ne-BLOCK_BYTES.false in
     record {
       answer = past_read bs s.first s.count c.args.block past c.args.buffer.now whole;
       buffer = past_buffer bs s.first s.count c.args.block past c.args.buffer.now whole;

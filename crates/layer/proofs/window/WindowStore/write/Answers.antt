@@ -10,7 +10,7 @@ returns-in-Some g c =
     let b = c.args.block in
     let at = c.in-Some.at in
     let found = c.in-Some.ensures in
-    let whole = c.if-bytes-ne-BLOCK-BYTES.false in
+    let whole = c.if-bytes-ne-BLOCK_BYTES.false in
     let after = c.write.ensures.after in
     record {
       answer = c.renumber.ensures ∙ ap (λ r. renumbered r b) c.write.ensures.answer ∙ window_write bs s.first s.count b at found c.args.bytes.now whole;
@@ -25,7 +25,7 @@ returns-in-None g c =
     let s = c.args.self.now in
     let bs = g.S.Store.blocks s.below in
     let past = c.in-None.ensures in
-    let whole = c.if-bytes-ne-BLOCK-BYTES.false in
+    let whole = c.if-bytes-ne-BLOCK_BYTES.false in
     record {
       answer = past_write bs s.first s.count c.args.block past c.args.bytes.now whole;
       after = past_written bs s.first s.count c.args.block past c.args.bytes.now whole;

@@ -4,8 +4,8 @@ use Rattle.raw.proofs.Records.{few_tracks, past_lengths, first_misplaced, laid_o
 use Rattle.raw.proofs.RawBlocks.{length_raw}
 use Rattle.raw.proofs.raw.RawImage.open.Goals as goal
 
-pub first-misplaced-requires : goal.first-misplaced-requires
-first-misplaced-requires c =
+pub first_misplaced-requires : goal.first_misplaced-requires
+first_misplaced-requires c =
     let n = length c.args.bytes.now in
     let t = length c.args.spares.now in
     let e : is_some (raw_count n t c.args.records) ≡ true = search rules in

@@ -4,8 +4,8 @@ use Rattle.raw.specs.Lawful.{inside_raw}
 use Rattle.raw.proofs.Records.{records_two, records_few, few_blocks, track_there}
 use Rattle.raw.proofs.raw.RawImage.start.Goals as goal
 
-pub record-start-requires : goal.record-start-requires
-record-start-requires c =
+pub record_start-requires : goal.record_start-requires
+record_start-requires c =
     let s = c.args.self.now in
     let n = length s.bytes.now in
     let t = length s.spares.now in

@@ -5,8 +5,8 @@ use Rattle.raw.specs.Lawful.{inside_raw}
 use Rattle.raw.proofs.RawBlocks.{raw_writes, raw_wrote, writes_record}
 use Rattle.raw.proofs.raw.RawImageStore.write.Goals as goal
 
-pub returns-in-err-number : goal.returns-in-err-number
-returns-in-err-number c = let s = c.args.self.now in let e = raw_writes s.bytes.now s.spares.now s.records s.protection c.args.block c.args.bytes.now in search rules
+pub returns-in_err-number : goal.returns-in_err-number
+returns-in_err-number c = let s = c.args.self.now in let e = raw_writes s.bytes.now s.spares.now s.records s.protection c.args.block c.args.bytes.now in search rules
 
 pub returns-in-Protected : goal.returns-in-Protected
 returns-in-Protected c = let s = c.args.self.now in let e = raw_writes s.bytes.now s.spares.now s.records s.protection c.args.block c.args.bytes.now in search rules
@@ -16,7 +16,7 @@ returns c =
     let s = c.args.self.now in
     let h : c.args.block < raw_size (length s.bytes.now) (length s.spares.now) s.records = search rules in
     let w : length c.args.bytes.now ≡ 256 = search rules in
-    let e = raw_wrote s.bytes.now s.spares.now s.records s.protection c.args.block c.args.bytes.now h w c.in-default.is in
+    let e = raw_wrote s.bytes.now s.spares.now s.records s.protection c.args.block c.args.bytes.now h w c.in_default.is in
     let g = writes_record s.bytes.now (raw_record s.spares.now s.records c.args.block) c.args.bytes.now (inside_raw s.spares.now (length s.bytes.now) s.records c.args.block h) w in
     let from = 276 * raw_record s.spares.now s.records c.args.block + 6 in
     let l = laid_over (set s.bytes.now (276 * raw_record s.spares.now s.records c.args.block) 0) from (from + 256 - from) c.args.bytes.now (omega arith) in
