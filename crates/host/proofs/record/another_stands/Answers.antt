@@ -7,8 +7,8 @@ use Rattle.host.proofs.record.another_stands.Goals as goal
 pub loop-other-init : goal.loop-other-init
 loop-other-init c = search (rules, some_below_none)
 
-pub returns-then-stands-at : goal.returns-then-stands-at
-returns-then-stands-at c =
+pub returns-then-stands_at : goal.returns-then-stands_at
+returns-then-stands_at c =
     let hosts = c.args.hosts.now in
     let e : is_another (stands c.args.want) c.args.place hosts c.loop-other.other ≡ true = search rules in
     sym (some_below_found (is_another (stands c.args.want) c.args.place hosts) c.loop-other.other (length hosts) (omega arith) e)

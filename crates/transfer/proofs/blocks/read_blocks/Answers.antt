@@ -13,16 +13,16 @@ loop-k-preserved g c =
     let a = c.args.at in
     let u = c.args.unit in
     let k = c.loop-k.k in
-    let ys = c.read-one-answer.new.part in
+    let ys = c.read_one-answer.new.part in
     let same = c.loop-k.invariant.0 in
     let long = c.loop-k.invariant.1 in
-    let here = c.read-one-answer.ensures.part ∙ ap (λ l. buffer_at zeros (slice_get l (b + k))) same in
-    let whole : length c.read-one-answer.new.part ≡ 256 = omega arith in (
-      c.read-one-answer.ensures.same ∙ same,
+    let here = c.read_one-answer.ensures.part ∙ ap (λ l. buffer_at zeros (slice_get l (b + k))) same in
+    let whole : length c.read_one-answer.new.part ≡ 256 = omega arith in (
+      c.read_one-answer.ensures.same ∙ same,
       long_more bs b k ys here whole long,
       read_more bs b k ys here whole long c.loop-k.buffer c.args.buffer.now c.loop-k.invariant.2,
       c.noted-fault.ensures
-          ∙ ap (λ r. first_fault c.loop-k.fault (met_by r u (a + k))) c.read-one-answer.ensures.answer
+          ∙ ap (λ r. first_fault c.loop-k.fault (met_by r u (a + k))) c.read_one-answer.ensures.answer
           ∙ ap (λ l. first_fault c.loop-k.fault (met_by (converted (read_at (b + k) (slice_get l (b + k)))) u (a + k))) same
           ∙ ap (λ f. first_fault f (met_by (converted (read_at (b + k) (slice_get bs (b + k)))) u (a + k))) c.loop-k.invariant.3
           ∙ sym (fault_more u bs b a k),

@@ -14,9 +14,9 @@ loop-k-preserved g c =
     let u = c.args.unit in
     let k = c.loop-k.k in
     let same = c.loop-k.invariant.0 in (
-      c.read-one-answer.ensures.same ∙ same,
+      c.read_one-answer.ensures.same ∙ same,
       c.noted-fault.ensures
-          ∙ ap (λ r. first_fault c.loop-k.fault (met_by r u (a + k))) c.read-one-answer.ensures.answer
+          ∙ ap (λ r. first_fault c.loop-k.fault (met_by r u (a + k))) c.read_one-answer.ensures.answer
           ∙ ap (λ l. first_fault c.loop-k.fault (met_by (converted (read_at (b + k) (slice_get l (b + k)))) u (a + k))) same
           ∙ ap (λ f. first_fault f (met_by (converted (read_at (b + k) (slice_get bs (b + k)))) u (a + k))) c.loop-k.invariant.1
           ∙ sym (fault_more u bs b a k),

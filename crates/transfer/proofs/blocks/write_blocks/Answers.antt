@@ -42,7 +42,7 @@ loop-k-preserved g c =
     let more = c.loop-k-test.true in
     let is = part_is k buffer in
     let whole = part_whole k n buffer more c.requires.room in
-    let fine = fine_of (write_at (b + k) (slice_get now (b + k))) c.in-default.ensures.answer in
+    let fine = fine_of (write_at (b + k) (slice_get now (b + k))) c.in_default.ensures.answer in
     let after = c.write_one.ensures.after in (
       ap (λ l. k + 1 + tried_of l (b + (k + 1)) (n - (k + 1))) after ∙ sym (turn_tried now b a u k n buffer part more is whole fine) ∙ c.loop-k.invariant.0,
       ap (λ l. fault_of u l (b + (k + 1)) (a + (k + 1)) (n - (k + 1))) after ∙ sym (turn_fault now b a u k n buffer part more is whole fine) ∙ c.loop-k.invariant.1,

@@ -14,10 +14,10 @@ pub returns-in-Some-Write : goal.returns-in-Some-Write
 unfolding moved_by_command
 returns-in-Some-Write g c = search rules
 
-pub returns-in-default : goal.returns-in-default
+pub returns-in_default : goal.returns-in_default
 unfolding moved_by_command
-returns-in-default g c = search rules
+returns-in_default g c = search rules
 
-pub returns-in-default·2 : goal.returns-in-default·2
+pub returns-in_default-2 : goal.returns-in_default-2
 unfolding moved_by_command
-returns-in-default·2 g c = search rules
+returns-in_default-2 g c = search rules

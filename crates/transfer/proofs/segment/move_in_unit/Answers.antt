@@ -5,8 +5,8 @@ use Rattle.transfer.specs.Segments.{first_of, span, laid, untried, Moved, moved_
 use Rattle.transfer.proofs.Starting.{nothing_left, ends_before, not_tried}
 use Rattle.transfer.proofs.segment.move_in_unit.Goals as goal
 
-pub move-from-requires : goal.move-from-requires
-move-from-requires g c =
+pub move_from-requires : goal.move_from-requires
+move_from-requires g c =
     let e = ends_before c.args.map.now c.in-Some.ensures.law c.args.transaction c.in-Some.block c.requires.lies (sym c.in-Some.ensures.is) in
     let b = e.0 in
     let a = e.1 in

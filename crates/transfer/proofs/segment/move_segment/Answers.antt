@@ -11,7 +11,7 @@ returns-in-Some g c = record { progress = search rules; buffer = search rules; a
 pub returns-in-None : goal.returns-in-None
 returns-in-None g c =
     let t = c.args.transaction in
-    let m = c.move-in-unit in
+    let m = c.move_in_unit in
     let store = c.args.store.now in
     record {
       progress = search rules;

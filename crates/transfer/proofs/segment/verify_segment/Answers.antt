@@ -6,6 +6,6 @@ pub returns : goal.returns
 returns g c =
     let n = length_span (g.S.Store.blocks c.args.store.now) c.args.block (segment_of c.args.transaction) in
     let k = c.segment-tried.ensures in
-    let f = c.verify-blocks-fault.ensures.fault in
+    let f = c.verify_blocks-fault.ensures.fault in
     let o = c.after_reading.ensures in
-    record { progress = rw n (cc); same = c.verify-blocks-fault.ensures.same }
+    record { progress = rw n (cc); same = c.verify_blocks-fault.ensures.same }
