@@ -1,6 +1,7 @@
 pub mod Tests
 pub mod Standing
 pub mod Apart
+pub mod Segmented
 pub mod Served
 pub mod Fitting
 pub mod Mails

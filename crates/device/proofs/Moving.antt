@@ -16,6 +16,7 @@ use Rattle.device.specs.declared.ticket.ExecutionTicket.{ExecutionTicket}
 use Rattle.device.specs.declared.ticket.Ticket.TheVariants as tickets
 use Rattle.device.specs.Calls.{segment, moved, returned}
 use Rattle.device.specs.Device.{state_of, after, known_at, fitting, with_host, gone_on}
+use Rattle.device.proofs.Segmented.{segmented_by}
 
 -- A segment that is moved was not refused, and one that is refused has that status.
 moved_is : (r : Option Status) (m : Moved) (p : Progress) → Ok p ≡ progress_by r m → (r ≡ None) × (p ≡ m.progress)
@@ -51,10 +52,10 @@ module _ (c : Controller) (bs : List Block) (k : ExecutionTicket) (buffer : List
   opened = fitting_is c.number k.device phases.Execution (host_at c.hosts k.host).transaction t fitted
 
   moved_on : why ≡ None → (moved (gone_on c k.host known t comes_to.progress).0 comes_to.buffer, state_of (gone_on c k.host known t comes_to.progress).1 (laid bs (start_of c.map (Some t)) comes_to.put)) ≡ after (state_of c bs) (segment k buffer)
-  moved_on y = rw its (rw (fitted, y, opened) refl)
+  moved_on y = rw its (rw (fitted, segmented_by, y, opened) refl)
 
   stays : (s : Status) → why ≡ Some s → (returned s (tickets.Execution k) buffer, state_of (with_host c k.host known) bs) ≡ after (state_of c bs) (segment k buffer)
-  stays s y = rw its (rw (fitted, y) refl)
+  stays s y = rw its (rw (fitted, segmented_by, y) refl)
 
   -- From what each step of the call leaves.
   pub segment_moved_on : (p : Progress) (bytes : List ℕ) (blocks : List Block) →

@@ -13,8 +13,8 @@ use Rattle.device.specs.declared.ticket.ExecutionTicket.{ExecutionTicket}
 use Rattle.device.specs.declared.ticket.ReportTicket.{ReportTicket}
 use Rattle.device.specs.declared.ticket.Ticket.{Ticket}
 use Rattle.device.specs.Calls.{Call, command, segment, report, cancel, clear, notice, fault, by, Answer, accepted, moved, reported, done, noticed, faulted, refusal, returned}
-use Rattle.transfer.specs.Segments.{laid, refusal_of}
-use Rattle.device.specs.Device.{State, host_of, mail_of, Fixed, fixed, asked, in_way, Served, fitting, number_on, phase_on, segment_by, segmented, reported_on, cancelled, serve, start, answer, next, run}
+use Rattle.transfer.specs.Segments.{holds_segment, laid}
+use Rattle.device.specs.Device.{State, host_of, mail_of, Fixed, fixed, asked, in_way, Served, fitting, executable, number_on, phase_on, segmented, reported_on, cancelled, serve, start, answer, next, run}
 use Rattle.device.specs.Refusals.{ticket_given, buffer_given, SameButAddress, Leaves, RefusalsFrom}
 use Rattle.device.proofs.Steps.{did, content, answer_is, host_next}
 
@@ -49,11 +49,7 @@ module _ (f : Fixed) (x : Host) (m : Mail) (os : List (Option Block)) where
 
   segment_kept : (k : ExecutionTicket) (buffer : List ℕ) (r : Option Transaction) → Kept (segment k buffer) x (segmented f r x os k buffer)
   segment_kept k buffer None = record { kept = (refl, refl, refl, refl) }
-  segment_kept k buffer (Some t) = go (refusal_of f.map t buffer)
-    where
-      go : (r : Option Status) → Kept (segment k buffer) x (segment_by r f x t os k buffer)
-      go None = record { kept = tt }
-      go (Some s) = record { kept = (refl, refl, refl, refl) }
+  segment_kept k buffer (Some t) = choose (segment k buffer) (holds_segment t buffer) (record { kept = tt }) (record { kept = (refl, refl, refl, refl) })
 
   report_kept : (k : ReportTicket) (buffer : List ℕ) (r : Option Transaction) → Kept (report k buffer) x (reported_on r x k buffer)
   report_kept k buffer None = record { kept = (refl, refl, refl, refl) }
@@ -67,7 +63,7 @@ module _ (f : Fixed) (x : Host) (m : Mail) (os : List (Option Block)) where
   serve_kept true o c = record { kept = (refl, refl, inl refl) }
   serve_kept false None (command h bytes) = record { kept = (refl, (refused_kept _ x).0, (refused_kept _ x).1) }
   serve_kept false (Some w) (command h bytes) = record { kept = tt }
-  serve_kept false o (segment k buffer) = segment_kept k buffer (fitting f.number k.device phases.Execution x.transaction)
+  serve_kept false o (segment k buffer) = segment_kept k buffer (executable f.map (fitting f.number k.device phases.Execution x.transaction))
   serve_kept false o (report k buffer) = report_kept k buffer (fitting f.number k.device phases.Report x.transaction)
   serve_kept false o (cancel k) = cancel_kept k (fitting f.number (number_on k) (phase_on k) x.transaction)
   serve_kept false o (clear h) = choose (clear h) (ltb h 8) (choose (clear h) (is_some x.transaction) (record { kept = (refl, refl, inl refl) }) (record { kept = tt })) (record { kept = (refl, refl, inl refl) })

@@ -1,5 +1,5 @@
 -- What a call can do to its own host, whatever the others hold.
-use Rattle.std.proofs.Common.{◌≡◌, ℕ, Bool, true, false, cond, ◌&&◌, eqb, ltb, leb, ◌⊎◌, List, length, get_or, is_some, Some, None, Option, sym, refl, ap, ◌∙◌, ap₂, arith}
+use Rattle.std.proofs.Common.{◌≡◌, ℕ, Bool, true, false, cond, ◌&&◌, eqb, ltb, leb, ◌⊎◌, List, length, get_or, is_some, Some, None, Option, sym, refl, ap, ◌∙◌, subst, ap₂, arith}
 use Rattle.std.proofs.lemmas.Bool.Decides.{nat_tests}
 use Rattle.store.specs.Blocks.{Block}
 use Rattle.message.specs.declared.command.Command.{Command}
@@ -22,7 +22,8 @@ use Rattle.device.specs.declared.ticket.ReportTicket.{ReportTicket}
 use Rattle.device.specs.declared.ticket.Ticket.{Ticket}
 use Rattle.device.specs.Calls.{Call, command, segment, report, cancel, clear, notice, fault, Answer, accepted, done}
 use Rattle.transfer.specs.Segments.{moved_by_command, refusal_of}
-use Rattle.device.specs.Device.{Fixed, Served, says, is_phase, fitting, number_on, phase_on, segment_moved, segment_by, segmented, reported_on, cancelled, does, serve}
+use Rattle.device.specs.Device.{Fixed, Served, says, is_phase, fitting, number_on, phase_on, segment_moved, executable, segmented, reported_on, cancelled, does, serve}
+use Rattle.device.proofs.Segmented.{segment_by, segmented_by}
 use Rattle.device.proofs.Tests.{clash, getD_set_cases, of_row}
 use Rattle.device.proofs.Apart.{Grown}
 
@@ -47,7 +48,7 @@ module _ (f : Fixed) (o : Option Message) (x : Host) (os : List (Option Block)) 
     command_ways h bytes e (Some k) i m = w.accepts h bytes e k i _
 
     -- a ticket that fits is for the host's own transaction
-    segment_ways : (k : ExecutionTicket) (buffer : List ℕ) (r : Option Transaction) → x.transaction ≡ r → P (segmented f (fitting f.number k.device phases.Execution r) x os k buffer)
+    segment_ways : (k : ExecutionTicket) (buffer : List ℕ) (r : Option Transaction) → x.transaction ≡ r → P (segmented f (executable f.map (fitting f.number k.device phases.Execution r)) x os k buffer)
     segment_ways k buffer None e = w.stays _
     segment_ways k buffer (Some t) e = by_fit (eqb k.device f.number && is_phase phases.Execution t.phase)
       where
@@ -55,8 +56,8 @@ module _ (f : Fixed) (o : Option Message) (x : Host) (os : List (Option Block)) 
         by_refusal None i = w.moves t e _ _ _ i
         by_refusal (Some s) i = w.stays _
 
-        by_fit : (b : Bool) → P (segmented f (cond b (Some t) None) x os k buffer)
-        by_fit true = by_refusal (refusal_of f.map t buffer) refl
+        by_fit : (b : Bool) → P (segmented f (executable f.map (cond b (Some t) None)) x os k buffer)
+        by_fit true = subst P (sym (segmented_by f x t os k buffer)) (by_refusal (refusal_of f.map t buffer) refl)
         by_fit false = w.stays _
 
     report_ways : (k : ReportTicket) (buffer : List ℕ) (r : Option Transaction) → P (reported_on r x k buffer)

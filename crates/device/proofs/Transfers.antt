@@ -24,10 +24,11 @@ use Rattle.transfer.proofs.MovesLaw.{moves_are}
 use Rattle.transfer.proofs.Starting.{not_tried}
 use Rattle.device.specs.declared.ticket.ExecutionTicket.{ExecutionTicket}
 use Rattle.device.specs.Calls.{Call, segment, Answer, moved}
-use Rattle.device.specs.Device.{State, host_of, fixed, Served, is_phase, fitting, segment_moved, segment_by, segmented, ticket_for, counted, answer, next, run}
+use Rattle.device.specs.Device.{State, host_of, fixed, Served, is_phase, fitting, segment_moved, executable, segmented, ticket_for, counted, answer, next, run}
 use Rattle.device.specs.Transfers.{IsMoved, buffer_in, MovingFrom, segments, AllMoved, left_in, left_of, moved_count, all_given, all_left, outcome_in, outcome_of, at_once, ComesTo, TransfersFrom}
 use Rattle.device.proofs.Tests.{none_some, one_of}
 use Rattle.device.proofs.Fitting.{Fits}
+use Rattle.device.proofs.Segmented.{segment_by, segmented_by}
 use Rattle.device.proofs.Moving.{fitting_is}
 use Rattle.device.proofs.Steps.{did, content, answer_is, map_next, host_own, host_other}
 use Rattle.device.proofs.States.{Sound, sound_run}
@@ -77,7 +78,7 @@ module _ (s : State) (k : ExecutionTicket) (buffer : List ℕ) (t : Transaction)
   abbrev fit : Bool
   fit = eqb k.device s.number && is_phase phases.Execution t.phase
 
-  did_is : did s c ≡ segmented (fixed s) (cond fit (Some t) None) x os k buffer
+  did_is : did s c ≡ segmented (fixed s) (executable s.map (cond fit (Some t) None)) x os k buffer
   unfolding did
   did_is = rw now refl
 
@@ -85,8 +86,11 @@ module _ (s : State) (k : ExecutionTicket) (buffer : List ℕ) (t : Transaction)
   by_refusal None e m = (refl, e)
   by_refusal (Some u) e m = absurd m
 
-  by_fit : (q : Bool) → IsMoved (segmented (fixed s) (cond q (Some t) None) x os k buffer).answer → (segmented (fixed s) (cond q (Some t) None) x os k buffer ≡ segment_moved (fixed s) x t k.host one) × (refusal_of s.map t buffer ≡ None)
-  by_fit true m = by_refusal (refusal_of s.map t buffer) refl m
+  by_fit : (q : Bool) → IsMoved (segmented (fixed s) (executable s.map (cond q (Some t) None)) x os k buffer).answer → (segmented (fixed s) (executable s.map (cond q (Some t) None)) x os k buffer ≡ segment_moved (fixed s) x t k.host one) × (refusal_of s.map t buffer ≡ None)
+  by_fit true m =
+      let e = segmented_by (fixed s) x t os k buffer in
+      let p = by_refusal (refusal_of s.map t buffer) refl (subst IsMoved (ap (λ (d : Served). d.answer) e) m) in
+      (e ∙ p.0, p.1)
   by_fit false m = absurd m
 
   module _ (m : IsMoved (answer s c)) where
@@ -228,7 +232,7 @@ transfers_from start w calls k t buffers now m z =
 
 -- ---- No segment is refused but for its ticket or its buffer.
 
-did_fitting : (s : State) (k : ExecutionTicket) (buffer : List ℕ) → did s (segment k buffer) ≡ segmented (fixed s) (fitting s.number k.device phases.Execution (host_of s k.host).transaction) (host_of s k.host) (content s (segment k buffer)) k buffer
+did_fitting : (s : State) (k : ExecutionTicket) (buffer : List ℕ) → did s (segment k buffer) ≡ segmented (fixed s) (executable s.map (fitting s.number k.device phases.Execution (host_of s k.host).transaction)) (host_of s k.host) (content s (segment k buffer)) k buffer
 unfolding did
 did_fitting s k buffer = refl
 
@@ -242,6 +246,7 @@ moving_from start i calls k buffer t fits holds =
     subst
     IsMoved
     (sym (answer_is s (segment k buffer) ∙ ap (λ (d : Served). d.answer) (did_fitting s k buffer)
-    ∙ ap (λ (o : Option Transaction). (segmented (fixed s) o (host_of s k.host) (content s (segment k buffer)) k buffer).answer) fits
+    ∙ ap (λ (o : Option Transaction). (segmented (fixed s) (executable s.map o) (host_of s k.host) (content s (segment k buffer)) k buffer).answer) fits
+    ∙ ap (λ (d : Served). d.answer) (segmented_by (fixed s) (host_of s k.host) t (content s (segment k buffer)) k buffer)
     ∙ ap (λ (r : Option Status). (segment_by r (fixed s) (host_of s k.host) t (content s (segment k buffer)) k buffer).answer) free))
     tt

@@ -15,7 +15,7 @@ use Rattle.host.specs.declared.transaction.Phase.TheVariants as phases
 use Rattle.host.specs.declared.transaction.Transaction.{Transaction}
 use Rattle.host.specs.Hosts.{at_start, cleared, host_at, stands, another}
 use Rattle.host.specs.Messages.{judged, refused, accepted as accepted-by, opened, wanted}
-use Rattle.host.specs.Progress.{phase_after, moved_by, ended}
+use Rattle.host.specs.Progress.{lies_in, phase_after, moved_by, advanced, ended}
 use Rattle.host.specs.Waits.{powered, silent, mail_at, settle, waiting_for, without_notice}
 use Rattle.device.specs.declared.controller.Controller.{Controller}
 use Rattle.device.specs.declared.table.Known.{Known}
@@ -25,7 +25,7 @@ use Rattle.device.specs.declared.ticket.Ticket.{Ticket}
 use Rattle.device.specs.declared.ticket.Ticket.TheVariants as tickets
 use Rattle.device.specs.Calls.{Call, command, segment, report, cancel, clear, notice, fault, by, Answer, accepted, moved, reported, done, noticed, faulted, refusal, returned}
 use Rattle.transfer.specs.Reports.{report_bytes}
-use Rattle.transfer.specs.Segments.{start_of, reach_of, span, laid, Moved, moved_by_command, refusal_of}
+use Rattle.transfer.specs.Segments.{start_of, reach_of, span, laid, Moved, moved_by_command, holds_segment}
 
 -- The state of a device: its controller, and what its store means.
 pub record State : Type 0 where
@@ -121,23 +121,25 @@ abbrev pub fitting : ℕ → ℕ → Phase → Option Transaction → Option Tra
 fitting number device phase None = None
 fitting number device phase (Some t) = cond (device == number && is_phase phase t.phase) (Some t) None
 
--- A segment: the ticket fits, else 1/6, and the segment can be moved. A transaction of a device that was powered on always lies in its unit,
--- so that what can then refuse it is a buffer that does not hold it, 128/5.
+-- A segment: the ticket fits, else 1/6; then the buffer holds the segment, else 128/5.
 abbrev pub segment_moved : Fixed → Host → Transaction → ℕ → Moved → Served
 segment_moved f x t h m = record {
-  answer = moved (ticket_for f.number h (phase_after t)) m.buffer;
+  answer = moved (ticket_for f.number h (advanced t m.progress).phase) m.buffer;
   host = moved_by t m.progress x;
   put = m.put;
   tried = m.progress.tried;
 }
 
-abbrev pub segment_by : Option Status → Fixed → Host → Transaction → List (Option Block) → ExecutionTicket → List ℕ → Served
-segment_by None f x t os k buffer = segment_moved f x t k.host (moved_by_command t.command t (start_of f.map (Some t)) os buffer)
-segment_by (Some s) f x t os k buffer = says (returned s (tickets.Execution k) buffer) x
+abbrev pub executable : UnitMap → Option Transaction → Option Transaction
+executable map None = None
+executable map (Some t) = cond (lies_in map t) (Some t) None
 
 abbrev pub segmented : Fixed → Option Transaction → Host → List (Option Block) → ExecutionTicket → List ℕ → Served
 segmented f None x os k buffer = says (returned statuses.MessageSequence (tickets.Execution k) buffer) x
-segmented f (Some t) x os k buffer = segment_by (refusal_of f.map t buffer) f x t os k buffer
+segmented f (Some t) x os k buffer =
+    cond (holds_segment t buffer)
+    (segment_moved f x t k.host (moved_by_command t.command t (start_of f.map (Some t)) os buffer))
+    (says (returned statuses.BadBuffer (tickets.Execution k) buffer) x)
 
 -- A report: the ticket fits, else 1/6; then the buffer has 13 bytes, else 128/5. It ends the transaction.
 abbrev pub reported_on : Option Transaction → Host → ReportTicket → List ℕ → Served
@@ -173,7 +175,7 @@ fault_told h x = cond (nat_lt h 8) (says (faulted x.fault) x) (says (refusal sta
 -- With nothing in the way; `o` is the message that came to the lock check.
 abbrev pub does : Fixed → Option Message → Host → Mail → List (Option Block) → Call → Served
 does f o x m os (command h bytes) = commanded f o x h bytes
-does f o x m os (segment k buffer) = segmented f (fitting f.number k.device phases.Execution x.transaction) x os k buffer
+does f o x m os (segment k buffer) = segmented f (executable f.map (fitting f.number k.device phases.Execution x.transaction)) x os k buffer
 does f o x m os (report k buffer) = reported_on (fitting f.number k.device phases.Report x.transaction) x k buffer
 does f o x m os (cancel k) = cancelled (fitting f.number (number_on k) (phase_on k) x.transaction) x k
 does f o x m os (clear h) = cleared_by h x
@@ -200,7 +202,7 @@ served s c =
 -- A refused message is waited for, in place of an earlier one; a clear drops both; the notice call removes the notice.
 abbrev pub waiting : Option Message → Mail → Mail
 waiting None m = m
-waiting (Some w) m = waiting_for (wanted w) m
+waiting (Some w) m = record { wait = Some (wanted w); notice = m.notice }
 
 abbrev pub dropped : Host → Mail → Mail
 dropped x m = cond (is_some x.transaction) m silent

@@ -2,9 +2,9 @@ use Rattle.device.specs.Calls.{report}
 use Rattle.device.proofs.NoHost.{no_number, nobody}
 use Rattle.device.proofs.device.Device.report.Goals as goal
 
-pub returns-in-default : goal.returns-in-default
-returns-in-default g c =
+pub returns-in_default : goal.returns-in_default
+returns-in_default g c =
     let d = c.args.self.now in
-    let eight = c.judge-waits.ensures.eight in
-    let past = no_number d.controller c.args.ticket.host c.in-default.ensures in
-    nobody d.controller (g.S.Store.blocks d.store) eight.0 eight.1 (report c.args.ticket c.args.buffer.now) past c.judge-waits.new.self c.judge-waits.ensures.left
+    let eight = c.judge_waits.ensures.eight in
+    let past = no_number d.controller c.args.ticket.host c.in_default.ensures in
+    nobody d.controller (g.S.Store.blocks d.store) eight.0 eight.1 (report c.args.ticket c.args.buffer.now) past c.judge_waits.new.self c.judge_waits.ensures.left
