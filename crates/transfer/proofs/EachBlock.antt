@@ -14,8 +14,9 @@ use Rattle.host.specs.declared.fault.HostFault.{HostFault}
 use Rattle.host.specs.declared.transaction.Outcome.{Outcome}
 use Rattle.host.specs.declared.transaction.Outcome.TheVariants as outcomes
 use Rattle.host.specs.declared.transaction.Transaction.{Transaction}
-use Rattle.transfer.specs.Segments.{span, zeros, met, fault_by, read_bytes, put_next, put, write_by, moved_by_command, laid}
+use Rattle.transfer.specs.Segments.{span, zeros, met, read_bytes, put_next, put, write_by, moved_by_command, laid}
 use Rattle.transfer.specs.Transfers.{part, is_open, is_writable}
+use Rattle.transfer.proofs.Faults.{fault_by}
 use Rattle.transfer.proofs.Spans.{laid_other}
 
 -- ---- The first fault.

@@ -12,7 +12,7 @@ use Rattle.host.specs.declared.transaction.Transaction.{Transaction}
 use Rattle.host.specs.Progress.{first_fault}
 use Rattle.transfer.specs.Segments.{span, read_fault, read_bytes, after_reading, write_fault, after_writing, put, write_tried, laid, Moved, read_moved, verified, untried, writing, write_by, moved_by_command, is_verify}
 use Rattle.transfer.proofs.Spans.{length_span, span_alike, laid_other, laid_cut}
-use Rattle.transfer.proofs.Cutting.{span_cut, bytes_cut, fault_cut, goes_on, stops}
+use Rattle.transfer.proofs.Cutting.{span_cut, bytes_cut, read_cut, write_cut, goes_on, stops}
 
 -- `one` is a segment of the n blocks from b on, `two` is what follows it, and `all` is both at once.
 pub record Joined (bs : List Block) (b n : ℕ) (one two all : Moved) : Type 0 where
@@ -48,7 +48,7 @@ module _ (bs : List Block) (b n m : ℕ) (t t' : Transaction) (unit : t'.unit �
     scan_fault : read_fault t.unit b t.at (span bs b (n + m)) ≡ first_fault (read_fault t.unit b t.at os) (read_fault t'.unit (b + n) t'.at ps)
     scan_fault =
         ap (read_fault t.unit b t.at) (span_cut bs b n m)
-        ∙ fault_cut read_at t.unit b t.at os ps n (sym (length_span bs b n))
+        ∙ read_cut t.unit b t.at os ps n (sym (length_span bs b n))
         ∙ sym (ap₂ (λ (u a : ℕ). first_fault (read_fault t.unit b t.at os) (read_fault u (b + n) a ps)) unit at)
 
     scan_outcome : after_reading t.outcome (read_fault t.unit b t.at (span bs b (n + m))) ≡ after_reading t'.outcome (read_fault t'.unit (b + n) t'.at ps)
@@ -121,7 +121,7 @@ module _ (bs : List Block) (b n m : ℕ) (t t' : Transaction) (unit : t'.unit �
     write_fault_all : write_fault t.unit b t.at (span bs b (n + m)) ≡ first_fault failed (write_fault t'.unit (b + n) t'.at ps)
     write_fault_all =
         ap (write_fault t.unit b t.at) (span_cut bs b n m)
-        ∙ fault_cut write_at t.unit b t.at os ps n (sym (length_span bs b n))
+        ∙ write_cut t.unit b t.at os ps n (sym (length_span bs b n))
         ∙ sym (ap₂ (λ (u a : ℕ). first_fault failed (write_fault u (b + n) a ps)) unit at)
 
     -- Every block of the first segment is written.

@@ -1,4 +1,5 @@
 pub mod Spans
+pub mod Faults
 pub mod Cutting
 pub mod ReadTurns
 pub mod WriteTurns

@@ -13,6 +13,7 @@ use Rattle.host.specs.declared.transaction.Outcome.TheVariants as outcomes
 use Rattle.host.specs.declared.transaction.Transaction.{Transaction}
 use Rattle.transfer.specs.Segments.{span, read_fault, read_bytes, after_reading, write_fault, after_writing, put, laid, write_by, moved_by_command}
 use Rattle.transfer.specs.Transfers.{part, is_sound, is_readable, is_writable, or_first, Scanned, HandedOver, Written, Wrote, MovesBy, Moves}
+use Rattle.transfer.proofs.Faults.{read_faults, write_faults}
 use Rattle.transfer.proofs.Spans.{length_span, laid_other}
 use Rattle.transfer.proofs.Starting.{nothing_read}
 use Rattle.transfer.proofs.EachBlock.{Wholes, none_fails, first_fails, some_fails, bytes_long, part_read, writes, refuses, put_at, put_ends, put_short, laid_at}
@@ -46,10 +47,10 @@ there (Some k) e = (k, refl)
 module _ (t : Transaction) (bs : List Block) (b n : ℕ) where
   scanned : Scanned bs b t.at n t.outcome (after_reading t.outcome (read_fault t.unit b t.at (span bs b n)))
   scanned = record {
-    fine = λ all. ap (after_reading t.outcome) (none_fails read_at is_readable reads unread t.unit bs b t.at n all) ∙ nothing_read t.outcome;
+    fine = λ all. ap (after_reading t.outcome) (read_faults t.unit b t.at (span bs b n) ∙ none_fails read_at is_readable reads unread t.unit bs b t.at n all) ∙ nothing_read t.outcome;
     failed = λ j l before now.
         let f = first_fails read_at is_readable reads unread t.unit bs b t.at n j l before now in
-        ap (after_reading t.outcome) f.1 ∙ after_first t.outcome _;
+        ap (after_reading t.outcome) (read_faults t.unit b t.at (span bs b n) ∙ f.1) ∙ after_first t.outcome _;
   }
 
   module _ (given : List ℕ) where
@@ -77,10 +78,10 @@ module _ (t : Transaction) (bs : List Block) (b n : ℕ) where
 
     wrote : t.outcome ≡ outcomes.Fine → Wrote bs b n (after_writing t.outcome (write_fault t.unit b t.at (span bs b n)))
     wrote fine = record {
-      fine = λ all. ap₂ (λ (o : Outcome) (f : Option HostFault). after_writing o f) fine (none_fails write_at is_writable writes refuses t.unit bs b t.at n all);
+      fine = λ all. ap₂ (λ (o : Outcome) (f : Option HostFault). after_writing o f) fine (write_faults t.unit b t.at (span bs b n) ∙ none_fails write_at is_writable writes refuses t.unit bs b t.at n all);
       failed = λ j l now.
           let f = some_fails write_at is_writable writes refuses t.unit bs b t.at n j l now in
-          ap₂ (λ (o : Outcome) (g : Option HostFault). after_writing o g) fine f.1;
+          ap₂ (λ (o : Outcome) (g : Option HostFault). after_writing o g) fine (write_faults t.unit b t.at (span bs b n) ∙ f.1);
     }
 
     write_moves : (o : Outcome) → t.outcome ≡ o →

@@ -53,14 +53,10 @@ met_by (Err f) u a = Some (record { fault = f; unit = u; address = a })
 abbrev pub met : {T : Type 0} → Result T StoreFault → ℕ → ℕ → Option HostFault → Option HostFault
 met r u a later = first_fault (met_by (converted r) u a) later
 
--- The first fault of a span of unit u that begins at block b and address a, by what a block of a number answers.
-abbrev pub fault_by : (ℕ → Option Block → Result (Unit {0}) StoreFault) → ℕ → ℕ → ℕ → List (Option Block) → Option HostFault
-fault_by answer u b a [] = None
-fault_by answer u b a (o ∷ os) = met (answer b o) u a (fault_by answer u (suc b) (suc a) os)
-
--- Read and Verify read each block of the span.
+-- Read and Verify: the first fault of a span of unit u that begins at block b and address a.
 abbrev pub read_fault : ℕ → ℕ → ℕ → List (Option Block) → Option HostFault
-read_fault u b a os = fault_by read_at u b a os
+read_fault u b a [] = None
+read_fault u b a (o ∷ os) = met (read_at b o) u a (read_fault u (suc b) (suc a) os)
 
 -- A block that cannot be read reads as zeros.
 abbrev pub zeros : List ℕ
@@ -80,7 +76,8 @@ after_reading (outcomes.Unrecoverable a) f = outcomes.Unrecoverable a
 
 -- Write: blocks are written in order until one refuses; that one is the last that is tried.
 abbrev pub write_fault : ℕ → ℕ → ℕ → List (Option Block) → Option HostFault
-write_fault u b a os = fault_by write_at u b a os
+write_fault u b a [] = None
+write_fault u b a (o ∷ os) = met (write_at b o) u a (write_fault u (suc b) (suc a) os)
 
 abbrev pub put_next : {T : Type 0} → Result T StoreFault → Block → List Block → List Block
 put_next (Ok x) k ks = k ∷ ks

@@ -1,0 +1,18 @@
+-- The first fault of a span, by what a block of a number answers: reads and writes are both such.
+use Rattle.std.proofs.Common.{◌≡◌, ℕ, suc, List, [], ◌∷◌, None, Option, Result, refl, ap}
+use Rattle.store.specs.declared.fault.StoreFault.{StoreFault}
+use Rattle.store.specs.Blocks.{Block, read_at, write_at}
+use Rattle.host.specs.declared.fault.HostFault.{HostFault}
+use Rattle.transfer.specs.Segments.{met, read_fault, write_fault}
+
+abbrev pub fault_by : (ℕ → Option Block → Result (Unit {0}) StoreFault) → ℕ → ℕ → ℕ → List (Option Block) → Option HostFault
+fault_by answer u b a [] = None
+fault_by answer u b a (o ∷ os) = met (answer b o) u a (fault_by answer u (suc b) (suc a) os)
+
+pub read_faults : (u b a : ℕ) (os : List (Option Block)) → read_fault u b a os ≡ fault_by read_at u b a os
+read_faults u b a [] = refl
+read_faults u b a (o ∷ os) = ap (met (read_at b o) u a) (read_faults u (suc b) (suc a) os)
+
+pub write_faults : (u b a : ℕ) (os : List (Option Block)) → write_fault u b a os ≡ fault_by write_at u b a os
+write_faults u b a [] = refl
+write_faults u b a (o ∷ os) = ap (met (write_at b o) u a) (write_faults u (suc b) (suc a) os)
