@@ -1,4 +1,6 @@
 // Runs a script on a device over an image under a window, a write guard and a cache, and prints what it answers.
+#![tactic(auto)]
+
 mod buffer;
 mod build;
 mod call;

@@ -1,3 +1,5 @@
+#![tactic(auto)]
+
 pub mod controller;
 pub mod device;
 mod fit;

@@ -1,2 +1,4 @@
+#![tactic(auto)]
+
 pub mod check;
 pub mod refusal;

@@ -1,2 +1,4 @@
+#![tactic(auto)]
+
 pub mod guard;
 pub mod window;

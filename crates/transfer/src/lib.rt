@@ -1,3 +1,5 @@
+#![tactic(auto)]
+
 mod blocks;
 pub mod report;
 pub mod segment;

@@ -1,4 +1,4 @@
-use super::small::two_units;
+use crate::small::two_units;
 use flex::status::*;
 use message::command::*;
 use message::decode::decode;

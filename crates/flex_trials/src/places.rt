@@ -1,4 +1,4 @@
-use super::small::unit;
+use crate::small::unit;
 use flex::geometry::*;
 use flex::vector::*;
 

@@ -39,7 +39,7 @@ fn a_write_changes_its_bytes_and_its_bit(rt: HostRuntime) -> Result<(), Fail> {
         assert!(rt; reads(&mut image, 8, 5));
         assert!(rt; reads(&mut image, 3, 6));
         assert!(rt; is_open(&image, 0));
-        assert!(rt; image.damage() == [0b1111_0111u8, 0b1111_1110]);
+        assert!(rt; image.damage() == [0b1111_0111u8, 0b1111_1110].as_slice());
         image.settle();
         image.mark_damaged(8);
         image.mark_damaged(9);

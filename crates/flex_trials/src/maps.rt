@@ -1,4 +1,4 @@
-use super::small::{two_units, unit};
+use crate::small::{two_units, unit};
 use flex::geometry::*;
 use flex::status::*;
 use flex::unit::*;

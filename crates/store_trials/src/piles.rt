@@ -47,7 +47,7 @@ fn over_a_flat_image(rt: HostRuntime) -> Result<(), Fail> {
             && has(image.bytes(), 767, 6)
             && has(image.bytes(), 768, 1)
     );
-    assert!(rt; image.damage() == [0b0001_0000u8]);
+    assert!(rt; image.damage() == [0b0001_0000u8].as_slice());
     Ok(())
 }
 

@@ -1,2 +1,0 @@
-//! Two devices, and their tickets.
-mod tickets;
