@@ -1,5 +1,5 @@
 -- What the building lines of a case ask for.
-use Rattle.std.specs.Prelude.{◌≡◌, ℕ, true, [], ◌∷◌, ◌++◌, is_some, Some, None, Ok, Err, vec_items, Option, Result}
+use Rattle.std.specs.Prelude.{◌≡◌, ℕ, true, false, [], ◌∷◌, ◌++◌, is_some, Some, None, Ok, Err, vec_items, Option, Result}
 use Rattle.std.specs.Option.{unwrap_or}
 use Rattle.store.specs.declared.fault.Protection.TheVariants as protections
 use Rattle.layer.specs.declared.window.Window.{Window}
@@ -44,7 +44,7 @@ pub record NothingAsked (plan : Plan) : Type 0 where
   pub protection : plan.protection ≡ protections.Open
   pub window : plan.window ≡ None
   pub guard : plan.guard ≡ None
-  pub cache : plan.cache ≡ None
+  pub cache : plan.cache ≡ false
   pub units : vec_items plan.units ≡ []
   pub end : plan.end ≡ 0
   pub device : plan.device ≡ 0

@@ -2,12 +2,13 @@
 use Rattle.std.specs.Prelude.{◌≡◌, ℕ, ◌+◌, ◌-◌, ◌*◌, Bool, cond, ◌&&◌, List, [], ◌∷◌, ◌++◌, length, Some, None, Ok, Err, Option, Result, nat_le, nat_lt}
 use Rattle.std.specs.Option.{option_map}
 use Rattle.std.specs.Str.{all_ascii_digits}
+use Rattle.std.specs.Str.Parse.{without_leading_plus}
 use Rattle.cuwajimo.specs.declared.trouble.Trouble.{Trouble}
 use Rattle.cuwajimo.specs.Troubles.{IfLine}
 
--- A word is a number, however large, if it is one decimal digit or more.
+-- A word is a number, however large, if it is one decimal digit or more. A plus sign may stand before them.
 abbrev pub is_number : List ℕ → Bool
-is_number word = nat_lt 0 (length word) && all_ascii_digits word
+is_number word = nat_lt 0 (length (without_leading_plus word)) && all_ascii_digits (without_leading_plus word)
 
 -- The number that decimal digits write, after a number that stands before them.
 abbrev pub value_after : ℕ → List ℕ → ℕ
@@ -16,7 +17,8 @@ value_after n (c ∷ cs) = value_after (10 * n + (c - 48)) cs
 
 -- The number that a word writes, if it is a number and below the limit.
 abbrev pub number_below : ℕ → List ℕ → Option ℕ
-number_below limit word = cond (is_number word && nat_lt (value_after 0 word) limit) (Some (value_after 0 word)) None
+number_below limit word =
+    cond (is_number word && nat_lt (value_after 0 (without_leading_plus word)) limit) (Some (value_after 0 (without_leading_plus word))) None
 
 -- The same of a word that may be missing.
 abbrev pub number_in : ℕ → Option (List ℕ) → Option ℕ

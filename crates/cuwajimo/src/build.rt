@@ -2,7 +2,7 @@ ghost use Rattle.std.specs.Prelude.{◌≡◌, not, is_some, is_ok};
 ghost use Rattle.cuwajimo.specs.Troubles.{Blamed};
 ghost use Rattle.cuwajimo.specs.Plans.{first_set, FillAdded};
 
-use super::plan::{Cached, Fill, Plan, Run, Source};
+use super::plan::{Fill, Plan, Run, Source};
 use super::trouble::{Spot, Trouble};
 use super::words::{byte, end, is_number, number, short, word};
 use flex::geometry::Geometry;
@@ -70,13 +70,16 @@ fn damage(spot: Spot, line: &str) -> Result<Fill, Trouble> {
     Ok(Fill::Damage(blocks))
 }
 
-/// `window F N` or `guard F N`.
-fn run(spot: Spot, line: &str) -> Result<Run, Trouble> {
+/// A layer's run, of which there is at most one.
+fn run(spot: Spot, line: &str, earlier: Option<Run>) -> Result<Option<Run>, Trouble> {
+    if earlier.is_some() {
+        return Err(spot.trouble("a second layer of one kind"));
+    }
     let mut words = line.split_whitespace().skip(1);
     let first = number(spot, words.next())?;
     let count = number(spot, words.next())?;
     end(spot, words.next())?;
-    Ok(Run { first, count })
+    Ok(Some(Run { first, count }))
 }
 
 /// `unit F C D S`
@@ -157,16 +160,16 @@ fn read_layer(spot: Spot, plan: &mut Plan, line: &str) -> Result<(), Trouble> {
         Some("protect") => {
             alone(spot, line)?;
             plan.protection = Protection::Protected;
-            Ok(())
         }
-        Some("window") => set_once(spot, &mut plan.window, run(spot, line)?, "a second window"),
-        Some("guard") => set_once(spot, &mut plan.guard, run(spot, line)?, "a second guard"),
+        Some("window") => plan.window = run(spot, line, plan.window)?,
+        Some("guard") => plan.guard = run(spot, line, plan.guard)?,
         Some("cache") => {
             alone(spot, line)?;
-            set_once(spot, &mut plan.cache, Cached, "a second cache")
+            plan.cache = true;
         }
-        _ => read_map(spot, plan, line),
+        _ => return read_map(spot, plan, line),
     }
+    Ok(())
 }
 
 fn read_map(spot: Spot, plan: &mut Plan, line: &str) -> Result<(), Trouble> {

@@ -21,6 +21,7 @@ mod words;
 use run::{check_files, run};
 use script::cases;
 use std::io::Read;
+use std::process::ExitCode;
 use std::{env, fs};
 use trouble::Trouble;
 
@@ -45,12 +46,12 @@ fn perform(rt: &HostRuntime) -> Result<(), Trouble> {
     run(rt, cases.as_slice())
 }
 
-fn main(rt: HostRuntime) -> Result<(), Trouble> {
+fn main(rt: HostRuntime) -> ExitCode {
     match perform(&rt) {
-        Ok(()) => Ok(()),
+        Ok(()) => ExitCode::SUCCESS,
         Err(trouble) => {
             let _ = eprintln!(rt; "{trouble}");
-            Err(trouble)
+            ExitCode::FAILURE
         }
     }
 }

@@ -96,7 +96,7 @@ fn on_image<S: Store + Drop>(
     job: Job,
 ) -> Result<Outcome, Trouble> {
     let below = layered(&case.plan, image);
-    if case.plan.cache.is_none() {
+    if !case.plan.cache {
         let Ended { store, outcome } = perform(rt, case, below, job);
         drop(store);
         return outcome;

@@ -31,10 +31,6 @@ impl Run {
     }
 }
 
-/// That a cache is asked for.
-#[derive(Clone, Copy)]
-pub struct Cached;
-
 /// Where the image comes from.
 #[derive(Drop)]
 pub enum Source {
@@ -77,7 +73,7 @@ pub struct Plan {
     pub protection: Protection,
     pub window: Option<Run>,
     pub guard: Option<Run>,
-    pub cache: Option<Cached>,
+    pub cache: bool,
     pub units: Vec<Unit>,
     pub end: u32,
     pub device: u32,
@@ -94,7 +90,7 @@ impl Plan {
             protection: Protection::Open,
             window: None,
             guard: None,
-            cache: None,
+            cache: false,
             units: Vec::new(heap),
             end: 0,
             device: 0,

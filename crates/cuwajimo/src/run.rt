@@ -7,21 +7,12 @@ use super::plan::Source;
 use super::say;
 use super::session::Outcome;
 use super::trouble::{Spot, Trouble};
-use std::io::Read;
-use std::{fs, io};
+use std::fs;
 
-/// Opens a file and reads its first byte, which a folder does not let.
-fn try_file(rt: &HostRuntime, path: &str) -> io::Result<()> {
-    let mut file = fs::open(rt, path)?;
-    let mut byte = [0u8; 1];
-    let _count = file.read(&mut byte)?;
-    Ok(())
-}
-
-/// That a file can be opened and read, before anything is done.
+/// That a file can be opened, before anything is done.
 fn check_file(rt: &HostRuntime, line: u32, path: &str) -> Result<(), Trouble> {
-    match try_file(rt, path) {
-        Ok(()) => Ok(()),
+    match fs::open(rt, path) {
+        Ok(_) => Ok(()),
         Err(e) => Err(Spot {
             heap: rt.alloc(),
             line,
@@ -158,18 +149,23 @@ fn decline(rt: &HostRuntime, case: &Case) -> Result<(), Trouble> {
     Ok(())
 }
 
-/// Carries out a case, if it has any call. A case with a call has an image.
+/// Carries out a case, if it has any call.
 fn run_case(rt: &HostRuntime, case: &Case) -> Result<(), Trouble> {
-    match &case.plan.source {
-        Some(source) if case.first().is_some() => {
-            let mut medium = load(rt, source)?;
-            prepare(&mut medium, case.plan.fills.as_slice());
-            match on_pile(rt, case, &mut medium, Job::Serve)? {
-                Outcome::Served => finish(rt, case, source, &mut medium),
-                Outcome::Refused => decline(rt, case),
-            }
+    let Some(first) = case.first() else {
+        return Ok(());
+    };
+    let Some(source) = &case.plan.source else {
+        return Err(Spot {
+            heap: rt.alloc(),
+            line: first.line,
         }
-        _ => Ok(()),
+        .trouble("a call, and no image to make it on"));
+    };
+    let mut medium = load(rt, source)?;
+    prepare(&mut medium, case.plan.fills.as_slice());
+    match on_pile(rt, case, &mut medium, Job::Serve)? {
+        Outcome::Served => finish(rt, case, source, &mut medium),
+        Outcome::Refused => decline(rt, case),
     }
 }
 

@@ -20,9 +20,6 @@ fn statement(line: &str) -> &str
 /// Adds what one line says to the case that is being read.
 fn read_line(spot: Spot, case: &mut Case, line: &str) -> Result<(), Trouble> {
     match read_call(spot, line)? {
-        Some(_) if case.plan.source.is_none() => {
-            Err(spot.trouble("a call, and no image to make it on"))
-        }
         Some(call) => case.add(call),
         None if case.first().is_none() => build::read(spot, &mut case.plan, line),
         None => Err(spot.about(

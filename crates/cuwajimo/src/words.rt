@@ -2,7 +2,7 @@ ghost use Rattle.std.specs.Prelude.{◌≡◌, ◌^◌, not, is_some, is_ok};
 ghost use Rattle.std.specs.Option.{option_map};
 ghost use Rattle.std.specs.Result.{result_ok};
 ghost use Rattle.cuwajimo.specs.Troubles.{Blamed};
-ghost use Rattle.cuwajimo.specs.Words.{is_number, number_below, number_in, hex_digit, HexAdded};
+ghost use Rattle.cuwajimo.specs.Words.{number_below, number_in, hex_digit, HexAdded};
 
 use super::trouble::{Spot, Trouble};
 
@@ -17,39 +17,15 @@ pub(super) fn word<'a>(spot: Spot, next: Option<&'a str>) -> Result<&'a str, Tro
     }
 }
 
-/// Whether a word is a number, however large: then an image is in memory, else it is in a file of that name.
-pub(super) fn is_number(word: &str) -> bool
-    ensures { result ≡ is_number word.now }
-{
-    let letters = word.as_bytes();
-    for letter in letters {
-        if !letter.is_ascii_digit() {
-            return false;
-        }
-    }
-    !letters.is_empty()
-}
-
-/// The number that a word writes, if it is one that fits.
-fn decimal(word: &str) -> Option<u32>
-    ensures { result ≡ number_below (2 ^ 32) word.now }
-{
-    if is_number(word) {
-        word.parse::<u32>().ok()
-    } else {
-        None
-    }
-}
-
 /// A decimal number that fits.
 pub(super) fn number(spot: Spot, next: Option<&str>) -> Result<u32, Trouble>
     ensures value { result_ok result ≡ number_in (2 ^ 32) (option_map (λ x. x.now) next.entry) }
     ensures line { Blamed spot.line result }
 {
     let word = word(spot, next)?;
-    match decimal(word) {
-        Some(n) => Ok(n),
-        None => Err(spot.about("not a number that fits:", word)),
+    match word.parse::<u32>() {
+        Ok(n) => Ok(n),
+        Err(_) => Err(spot.about("not a number that fits:", word)),
     }
 }
 
@@ -59,9 +35,9 @@ pub(super) fn short(spot: Spot, next: Option<&str>) -> Result<u16, Trouble>
     ensures line { Blamed spot.line result }
 {
     let word = word(spot, next)?;
-    match decimal(word) {
-        Some(n) if n <= 65535 => Ok(n as u16),
-        _ => Err(spot.about("not a number from 0 to 65535:", word)),
+    match word.parse::<u16>() {
+        Ok(n) => Ok(n),
+        Err(_) => Err(spot.about("not a number from 0 to 65535:", word)),
     }
 }
 
@@ -71,9 +47,9 @@ pub(super) fn byte(spot: Spot, next: Option<&str>) -> Result<u8, Trouble>
     ensures line { Blamed spot.line result }
 {
     let word = word(spot, next)?;
-    match decimal(word) {
-        Some(n) if n <= 255 => Ok(n as u8),
-        _ => Err(spot.about("not a number from 0 to 255:", word)),
+    match word.parse::<u8>() {
+        Ok(n) => Ok(n),
+        Err(_) => Err(spot.about("not a number from 0 to 255:", word)),
     }
 }
 
@@ -86,6 +62,13 @@ pub(super) fn end(spot: Spot, next: Option<&str>) -> Result<(), Trouble>
         None => Ok(()),
         Some(word) => Err(spot.about("a word too many:", word)),
     }
+}
+
+/// Whether a word is a number that fits: then an image is in memory, else it is in a file of that name.
+pub(super) fn is_number(word: &str) -> bool
+    ensures { result ≡ is_some (number_below (2 ^ 32) word.now) }
+{
+    word.parse::<u32>().is_ok()
 }
 
 /// The word after so many.
