@@ -1,5 +1,5 @@
 -- What a flat image means: memory with its blocks one after the other, and a map of one bit a block.
-use Rattle.std.specs.Prelude.{◌≡◌, ℕ, ◌+◌, ◌-◌, ◌*◌, ◌/◌, ◌%◌, ◌^◌, Bool, cond, ◌&&◌, List, length, set, Some, None, Option, ◌==◌, ◌≢◌, bit_and, bit_or, nat_le, slice_index, slice_set}
+use Rattle.std.specs.Prelude.{◌≡◌, ℕ, ◌+◌, ◌-◌, ◌*◌, ◌/◌, ◌%◌, ◌^◌, Bool, cond, ◌&&◌, List, length, Some, None, Option, ◌==◌, ◌≢◌, bit_and, bit_or, nat_le, slice_index, slice_set}
 use Rattle.std.specs.Option.{unwrap_or}
 use Rattle.store.specs.declared.fault.Protection.{Protection}
 use Rattle.store.specs.Blocks.{Block}
