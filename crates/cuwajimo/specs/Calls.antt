@@ -3,20 +3,20 @@ use Rattle.std.specs.Prelude.{◌≡◌, ℕ, Bool, true, false, cond, not, ◌|
 use Rattle.cuwajimo.specs.declared.call.Act.{Act}
 use Rattle.cuwajimo.specs.declared.call.Act.TheVariants as acts
 use Rattle.cuwajimo.specs.declared.call.HostAct.{HostAct}
-use Rattle.cuwajimo.specs.declared.call.HostAct.TheVariants as host-acts
+use Rattle.cuwajimo.specs.declared.call.HostAct.TheVariants as host_acts
 use Rattle.cuwajimo.specs.declared.call.Call.{Call}
 use Rattle.cuwajimo.specs.declared.case.Case.{Case}
 
 -- The word that a call's line begins with.
 abbrev pub host_act_name : HostAct → List ℕ
-host_act_name (host-acts.Command bytes) = codes "command"
-host_act_name (host-acts.Segment filling) = codes "segment"
-host_act_name (host-acts.Report filling) = codes "report"
-host_act_name host-acts.Cancel = codes "cancel"
-host_act_name host-acts.Clear = codes "clear"
-host_act_name host-acts.Notice = codes "notice"
-host_act_name host-acts.Fault = codes "fault"
-host_act_name host-acts.Params = codes "params"
+host_act_name (host_acts.Command bytes) = codes "command"
+host_act_name (host_acts.Segment filling) = codes "segment"
+host_act_name (host_acts.Report filling) = codes "report"
+host_act_name host_acts.Cancel = codes "cancel"
+host_act_name host_acts.Clear = codes "clear"
+host_act_name host_acts.Notice = codes "notice"
+host_act_name host_acts.Fault = codes "fault"
+host_act_name host_acts.Params = codes "params"
 
 abbrev pub act_name : Act → List ℕ
 act_name (acts.Host host act) = host_act_name act

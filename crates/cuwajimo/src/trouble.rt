@@ -1,5 +1,5 @@
 ghost use Rattle.std.specs.Prelude.{◌≡◌};
-ghost use Rattle.cuwajimo.specs.declared.trouble.Trouble.TheVariants.{Io as Io-trouble, Memory as No-memory};
+ghost use Rattle.cuwajimo.specs.declared.trouble.Trouble.TheVariants.{Io as IoTrouble, Memory as NoMemory};
 ghost use Rattle.cuwajimo.specs.Troubles.{Blames};
 
 use std::alloc::{AllocError, AllocFailed, Global};
@@ -16,7 +16,7 @@ pub enum Trouble {
 }
 
 impl From<io::Error> for Trouble {
-    ghost from_gives = { λ e r. r ≡ Io-trouble e };
+    ghost from_gives = { λ e r. r ≡ IoTrouble e };
 
     fn from(e: io::Error) -> Trouble {
         Trouble::Io(e)
@@ -24,7 +24,7 @@ impl From<io::Error> for Trouble {
 }
 
 impl From<AllocError> for Trouble {
-    ghost from_gives = { λ _ r. r ≡ No-memory };
+    ghost from_gives = { λ _ r. r ≡ NoMemory };
 
     fn from(_e: AllocError) -> Trouble {
         Trouble::Memory
@@ -32,7 +32,7 @@ impl From<AllocError> for Trouble {
 }
 
 impl<T: Drop> From<AllocFailed<T>> for Trouble {
-    ghost from_gives = { λ _ r. r ≡ No-memory };
+    ghost from_gives = { λ _ r. r ≡ NoMemory };
 
     fn from(_e: AllocFailed<T>) -> Trouble {
         Trouble::Memory

@@ -13,7 +13,7 @@ use Rattle.host.specs.declared.progress.Progress.{Progress}
 use Rattle.host.specs.declared.record.Host.{Host}
 use Rattle.host.specs.declared.transaction.Transaction.{Transaction}
 use Rattle.host.specs.Hosts.{unit_of, is_unit, works_on}
-use Rattle.host.specs.Messages.{blocks_of, unit_size, moves, moving, opened, accepted as accepted-by}
+use Rattle.host.specs.Messages.{blocks_of, unit_size, moves, moving, opened, accepted as accepted_by}
 use Rattle.host.specs.Progress.{advanced}
 use Rattle.device.specs.Calls.{Call}
 use Rattle.transfer.specs.Segments.{first_in, start_of, reach_of, moved_by_command}
@@ -49,8 +49,8 @@ opened_fits map m = record { ends = opened_ends map m; on_it = opened_on map m }
 advanced_fits : (map : UnitMap) (t : Transaction) (p : Progress) → Fits map (Some t) → Fits map (Some (advanced t p))
 advanced_fits map t p k = record { ends = omega (arith, k.ends); on_it = λ l. k.on_it (omega arith) }
 
-accepted_fits : (map : UnitMap) (m : Message) (x : Host) → Fits map (accepted-by map m x).transaction
-unfolding accepted-by
+accepted_fits : (map : UnitMap) (m : Message) (x : Host) → Fits map (accepted_by map m x).transaction
+unfolding accepted_by
 accepted_fits map m x = opened_fits map m
 
 module _ (f : Fixed) (o : Option Message) (x : Host) (m : Mail) (os : List (Option Block)) (c : Call) where

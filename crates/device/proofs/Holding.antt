@@ -7,7 +7,7 @@ use Rattle.host.specs.declared.locks.Locks.{Locks}
 use Rattle.host.specs.declared.mail.Mail.{Mail}
 use Rattle.host.specs.declared.record.Host.{Host}
 use Rattle.host.specs.Hosts.{cleared, locked}
-use Rattle.host.specs.Messages.{locks_after, refused, accepted as accepted-by}
+use Rattle.host.specs.Messages.{locks_after, refused, accepted as accepted_by}
 use Rattle.host.specs.Progress.{moved_by, ended}
 use Rattle.device.specs.declared.ticket.Ticket.{Ticket}
 use Rattle.device.specs.Calls.{Call, command, segment, report, cancel, clear, notice, fault, by, Answer, accepted, done}
@@ -63,8 +63,8 @@ device_held k u x n t = grind arith
 unit_held : (k : Option Command) (v : ℕ) (x : Host) → (DeletesBy k v x → ⊥) → (u : ℕ) → locked x u ≡ true → get_or (locks_after k v x.locks).units u false ≡ true
 unit_held k v x n u t = grind (arith, getD_set_cases)
 
-accepted_held : (f : Fixed) (m : Message) (x : Host) → (Deletes (Some m) x → ⊥) → Held x (accepted-by f.map m x)
-unfolding accepted-by
+accepted_held : (f : Fixed) (m : Message) (x : Host) → (Deletes (Some m) x → ⊥) → Held x (accepted_by f.map m x)
+unfolding accepted_by
 accepted_held f m x n = record {
   device = device_held m.command m.parameters.unit x n;
   unit = unit_held m.command m.parameters.unit x n;

@@ -52,8 +52,8 @@ mine_step s t c x r k =
       home = (K.0, r.home.1);
       like = (like_trans x (host_of s (by c)) (host_of (next s c) (by c)) r.like.0 K.1, r.like.1);
       blocks = λ b g.
-          let not-mine : Guards s.map x b → ⊥ = λ m. g (subst (λ (u : UnitMap). Guards u x b) (sym (map_next s c)) m) in
-          block_kept s c b (λ p q. not-mine (guards_like s.map (host_of s (by c)) x b (like_sym x (host_of s (by c)) r.like.0) (own_span s (by c) r.left r.home.0 b p q))) ∙ r.blocks b not-mine;
+          let not_mine : Guards s.map x b → ⊥ = λ m. g (subst (λ (u : UnitMap). Guards u x b) (sym (map_next s c)) m) in
+          block_kept s c b (λ p q. not_mine (guards_like s.map (host_of s (by c)) x b (like_sym x (host_of s (by c)) r.like.0) (own_span s (by c) r.left r.home.0 b p q))) ∙ r.blocks b not_mine;
     }
 
 -- A call of another's, on both sides.

@@ -15,7 +15,7 @@ use Rattle.host.specs.declared.transaction.Transaction.{Transaction}
 use Rattle.host.specs.declared.want.Want.{Want}
 use Rattle.host.specs.declared.want.Want.TheVariants as wants
 use Rattle.host.specs.Hosts.{no_locks, cleared, locked, unit_of, is_unit, works_on, on}
-use Rattle.host.specs.Messages.{refused, want_of, wanted, locks_after, opened, accepted as accepted-by}
+use Rattle.host.specs.Messages.{refused, want_of, wanted, locks_after, opened, accepted as accepted_by}
 use Rattle.host.specs.Progress.{moved_by, ended}
 use Rattle.device.specs.declared.ticket.ExecutionTicket.{ExecutionTicket}
 use Rattle.device.specs.declared.ticket.ReportTicket.{ReportTicket}
@@ -33,7 +33,7 @@ module _ (f : Fixed) (o : Option Message) (x : Host) (os : List (Option Block)) 
   pub record Ways : Type 0 where
     pub stays : (a : Answer) → P (says a x)
     pub refuses : (a : Answer) (s : Status) → P (says a (refused s x))
-    pub accepts : (h : ℕ) (bytes : List ℕ) → c ≡ command h bytes → (m : Message) → o ≡ Some m → (k : Ticket) → P (says (accepted k) (accepted-by f.map m x))
+    pub accepts : (h : ℕ) (bytes : List ℕ) → c ≡ command h bytes → (m : Message) → o ≡ Some m → (k : Ticket) → P (says (accepted k) (accepted_by f.map m x))
     pub moves : (t : Transaction) → x.transaction ≡ Some t → (h b : ℕ) (buffer : List ℕ) → refusal_of f.map t buffer ≡ None → P (segment_moved f x t h (moved_by_command t.command t b os buffer))
     pub ends : (a : Answer) → P (says a (ended x))
     pub clears : (h : ℕ) → c ≡ clear h → P (says done cleared)
@@ -135,8 +135,8 @@ opened_is map m = grind arith
 opened_works : (map : UnitMap) (m : Message) (u : ℕ) → works_on (Some (opened map m)) u ≡ is_unit (unit_of m.command m.parameters.unit) u
 opened_works map m u = ap₂ (λ (k : Option Command) (v : ℕ). is_unit (unit_of k v) u) (opened_is map m).0 (opened_is map m).1
 
-accepted_grown : (map : UnitMap) (m : Message) (x : Host) → Grown (Some (wanted m)) x (accepted-by map m x)
-unfolding accepted-by
+accepted_grown : (map : UnitMap) (m : Message) (x : Host) → Grown (Some (wanted m)) x (accepted_by map m x)
+unfolding accepted_by
 accepted_grown map m x = record {
   device = λ t f. device_gain m.command m.parameters.unit x.locks t f;
   unit = λ u t f. unit_gain m.command m.parameters.unit x.locks u t f;

@@ -14,7 +14,7 @@ use Rattle.host.specs.declared.transaction.Phase.{Phase}
 use Rattle.host.specs.declared.transaction.Phase.TheVariants as phases
 use Rattle.host.specs.declared.transaction.Transaction.{Transaction}
 use Rattle.host.specs.Hosts.{at_start, cleared, host_at, stands, another}
-use Rattle.host.specs.Messages.{judged, refused, accepted as accepted-by, opened, wanted}
+use Rattle.host.specs.Messages.{judged, refused, accepted as accepted_by, opened, wanted}
 use Rattle.host.specs.Progress.{lies_in, phase_after, moved_by, advanced, ended}
 use Rattle.host.specs.Waits.{powered, silent, mail_at, settle, waiting_for, without_notice}
 use Rattle.device.specs.declared.controller.Controller.{Controller}
@@ -106,7 +106,7 @@ first_status f x h bytes = cond (nat_lt h 8) (status_in (judged f.map f.reaches 
 
 -- A command: accepted, it hands out a ticket for its transaction's phase; refused, it leaves its host, but 1/3 zeroes the address.
 abbrev pub commanded : Fixed → Option Message → Host → ℕ → List ℕ → Served
-commanded f (Some m) x h bytes = says (accepted (ticket_for f.number h (opened f.map m).phase)) (accepted-by f.map m x)
+commanded f (Some m) x h bytes = says (accepted (ticket_for f.number h (opened f.map m).phase)) (accepted_by f.map m x)
 commanded f None x h bytes = says (refusal (first_status f x h bytes)) (refused (first_status f x h bytes) x)
 
 -- A ticket fits when it bears this device's number, and its host has an open transaction in the ticket's phase.
@@ -244,7 +244,7 @@ abbrev pub taken : Controller → ℕ → Known → Message → Answer × Contro
 taken c h k m =
     cond (another (stands (wanted m)) h c.hosts)
     (refusal statuses.ResourceUnavailable, with_host c h (record { host = k.host; mail = waiting_for (wanted m) k.mail }))
-    (accepted (ticket_for c.number h (opened c.map m).phase), with_host c h (record { host = accepted-by c.map m k.host; mail = k.mail }))
+    (accepted (ticket_for c.number h (opened c.map m).phase), with_host c h (record { host = accepted_by c.map m k.host; mail = k.mail }))
 
 -- Activity counts the blocks that were tried, and stays at 2 ^ 64 - 1.
 abbrev pub counted : ℕ → ℕ → ℕ

@@ -18,7 +18,7 @@ pub record EmptyHanded (x : Host) : Type 0 where
   pub units : (u : ℕ) → locked x u ≡ false
   pub transaction : x.transaction ≡ None
 
--- At most one host holds the device's lock, and then every other is empty_handed; no unit is locked by two hosts; and no host has an open
+-- At most one host holds the device's lock, and then every other is empty-handed; no unit is locked by two hosts; and no host has an open
 -- transaction on a unit that another has locked.
 pub record Exclusive (s : State) : Type 0 where
   pub one_device : (g k : ℕ) → (host_of s g).locks.device ≡ true → (host_of s k).locks.device ≡ true → g ≡ k

@@ -1,5 +1,5 @@
 ghost use Rattle.std.specs.Prelude.{◌≡◌};
-ghost use Rattle.device.specs.Device.{is_phase, fitting as fitting-of};
+ghost use Rattle.device.specs.Device.{is_phase, fitting as fitting_of};
 
 use host::transaction::{Phase, Transaction};
 
@@ -25,7 +25,7 @@ pub(super) fn fitting(
     phase: Phase,
     open: Option<Transaction>,
 ) -> Option<Transaction>
-    ensures { result ≡ fitting-of number device phase «open» }
+    ensures { result ≡ fitting_of number device phase «open» }
 {
     match open {
         Some(transaction) => {

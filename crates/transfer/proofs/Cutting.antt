@@ -64,7 +64,7 @@ none_failed : (f : HostFault) → ◌≡◌ {A = Option HostFault} (Some f) None
 none_failed f e = let z : ◌≡◌ {A = ℕ} 0 1 = cc in omega arith
 
 -- The first part is written whole: the second goes on after it.
-pub record Goes_on (b : ℕ) (os ps : List (Option Block)) (d e : List ℕ) (n : ℕ) : Type 0 where
+pub record GoesOn (b : ℕ) (os ps : List (Option Block)) (d e : List ℕ) (n : ℕ) : Type 0 where
   pub puts : put b (os ++ ps) (d ++ e) ≡ put b os d ++ put (b + n) ps e
   pub tries : write_tried b (os ++ ps) ≡ n + write_tried (b + n) ps
   pub all_put : length (put b os d) ≡ n
@@ -76,7 +76,7 @@ pub record Stops (b : ℕ) (os ps : List (Option Block)) (d e : List ℕ) : Type
   pub tries : write_tried b (os ++ ps) ≡ write_tried b os
 
 module _ (u : ℕ) where
-  pub goes_on : (b a : ℕ) (os ps : List (Option Block)) (d e : List ℕ) (n : ℕ) → n ≡ length os → length d ≡ 256 * n → write_fault u b a os ≡ None → Goes_on b os ps d e n
+  pub goes_on : (b a : ℕ) (os ps : List (Option Block)) (d e : List ℕ) (n : ℕ) → n ≡ length os → length d ≡ 256 * n → write_fault u b a os ≡ None → GoesOn b os ps d e n
   goes_on b a [] ps d e n i l w =
       let z : d ≡ [] = nothing d (omega arith) in
       let p : b ≡ b + n = omega arith in
@@ -91,7 +91,7 @@ module _ (u : ℕ) where
       let q = go (goes_on (suc b) (suc a) os ps (drop 256 d) e (n - 1) (omega arith) (simp length-drop (omega arith))) (write_at b o) w in
       record { puts = q.0; tries = q.1; all_put = q.2; all_tried = q.3 }
     where
-      go : (write_fault u (suc b) (suc a) os ≡ None → Goes_on (suc b) os ps (drop 256 d) e (n - 1)) → (r : Result (Unit {0}) StoreFault) → met r u a (write_fault u (suc b) (suc a) os) ≡ None →
+      go : (write_fault u (suc b) (suc a) os ≡ None → GoesOn (suc b) os ps (drop 256 d) e (n - 1)) → (r : Result (Unit {0}) StoreFault) → met r u a (write_fault u (suc b) (suc a) os) ≡ None →
           (put_next r (open_block (take 256 (d ++ e))) (put (suc b) (os ++ ps) (drop 256 (d ++ e))) ≡ put_next r (open_block (take 256 d)) (put (suc b) os (drop 256 d)) ++ put (b + n) ps e)
           × (tried_next r (write_tried (suc b) (os ++ ps)) ≡ n + write_tried (b + n) ps)
           × (length (put_next r (open_block (take 256 d)) (put (suc b) os (drop 256 d))) ≡ n)

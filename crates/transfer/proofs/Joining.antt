@@ -176,13 +176,13 @@ module _ (bs : List Block) (b n m : ℕ) (t t' : Transaction) (unit : t'.unit �
       stop_joined : Joined bs b n (writing t b os buffer) (untried t' e) (writing t b (span bs b (n + m)) (front ++ e))
       stop_joined =
           let stop = stops t.unit b t.at os ps front e n (sym (length_span bs b n)) long f some in
-          let failed-all : write_fault t.unit b t.at (span bs b (n + m)) ≡ failed =
+          let failed_all : write_fault t.unit b t.at (span bs b (n + m)) ≡ failed =
           write_fault_all ∙ ap (λ (g : Option HostFault). first_fault g (write_fault t'.unit (b + n) t'.at ps)) some ∙ sym some in
           record {
             buffer = refl;
             blocks = ap (λ (l : List (Option Block)). laid bs b (put b l (front ++ e))) (span_cut bs b n m) ∙ ap (laid bs b) (stop.puts ∙ sym stopped_put);
-            outcome = ap (after_writing t.outcome) failed-all ∙ sym out;
-            fault = failed-all ∙ some ∙ sym (ap (λ (g : Option HostFault). first_fault g None) some);
+            outcome = ap (after_writing t.outcome) failed_all ∙ sym out;
+            fault = failed_all ∙ some ∙ sym (ap (λ (g : Option HostFault). first_fault g None) some);
             tried = ap (write_tried b) (span_cut bs b n m) ∙ stop.tries ∙ omega arith;
             full = inl refl;
           }
