@@ -1,43 +1,49 @@
 -- Numbers of decimal digits, as `parse` reads them.
-use Rattle.std.proofs.Common.{◌≡◌, ℕ, ◌^◌, ◌<◌, Bool, true, false, cond, not, ◌&&◌, eqb, ltb, List, length, Some, None, Ok, Err, Option, Result, sym, refl, ap, ◌∙◌, arith, rules}
-use Rattle.std.specs.Str.Parse.{ParsesUnsigned}
-use Rattle.std.specs.Result.{OkIff, result_ok}
+use Rattle.std.proofs.Common.{◌≡◌, ℕ, ◌^◌, ◌<◌, Bool, true, false, cond, ◌&&◌, ltb, List, length, is_ok, is_some, Some, None, Ok, Err, Option, Result, sym, refl, ap, ◌∙◌, subst, rules}
+use Rattle.std.specs.Str.Parse.{ParsesUnsigned, digits_value, without_leading_plus}
+use Rattle.std.specs.Result.{result_ok}
 use Rattle.std.specs.Str.{all_ascii_digits}
-use Rattle.std.proofs.lemmas.Str.Parse.{IsNumeralModel, numerals_by_fold, parse_digits}
-use Rattle.std.proofs.lemmas.Bool.{and_parts, ltb-true}
-use Rattle.std.proofs.lemmas.Bool.Decides.{nat_tests}
-use Rattle.cuwajimo.specs.Words.{is_number, value_after, number_below}
+use Rattle.std.proofs.lemmas.Str.Parse.{IsNumeralModel, numerals_by_fold}
+use Rattle.std.proofs.lemmas.Bool.{false≢true, lt-ltb, ltb-true}
+use Rattle.cuwajimo.specs.Words.{is_number, value_after, number_below, number_in}
 
 decimal_digits : IsNumeralModel (λ ds. all_ascii_digits ds ≡ true) (value_after 0)
 decimal_digits = numerals_by_fold _ (search rules) value_after (search rules)
 
--- What `parse` converts a word of digits to is the number that they write, if it is below the limit.
-converted : {E : Type 0} (word : List ℕ) (r : Result ℕ E) → is_number word ≡ true → OkIff r ((0 < length word) × (value_after 0 word < 2 ^ 32)) (value_after 0 word) → result_ok r ≡ number_below (2 ^ 32) word
-converted word (Ok n) is h =
-    let small : ltb (value_after 0 word) (2 ^ 32) ≡ true = grind (arith, nat_tests, h.0.1) in
-    ap Some h.1 ∙ sym (ap (λ b. cond b (Some (value_after 0 word)) None) (ap (λ b. b && ltb (value_after 0 word) (2 ^ 32)) is ∙ small))
-converted word (Err e) is h =
-    let some : 0 < length word = ltb-true 0 (length word) (and_parts (ltb 0 (length word)) (all_ascii_digits word) is).0 in
-    let large : ltb (value_after 0 word) (2 ^ 32) ≡ false = grind (arith, nat_tests, λ (below : value_after 0 word < 2 ^ 32). h (some, below)) in
-    sym (ap (λ b. cond b (Some (value_after 0 word)) None) (ap (λ b. b && ltb (value_after 0 word) (2 ^ 32)) is ∙ large))
+module _ (k : ℕ) (word : List ℕ) where
+  abbrev digits : List ℕ
+  digits = without_leading_plus word
 
-pub parsed : {E : Type 0} (word : List ℕ) (r : Result ℕ E) → ParsesUnsigned 32 10 word r → is_number word ≡ true → result_ok r ≡ number_below (2 ^ 32) word
-parsed word r reads is =
-    converted word r is (parse_digits decimal_digits 32 word r reads (and_parts (ltb 0 (length word)) (all_ascii_digits word) is).1)
+  abbrev value : ℕ
+  value = value_after 0 digits
 
--- A word whose letters are not all digits is no number, and one of digits is unless it is empty.
-pub no_number : (xs word : List ℕ) → xs ≡ word → all_ascii_digits xs ≡ false → false ≡ is_number word
-no_number xs word e bad = sym (ap (λ b. ltb 0 (length word) && b) (ap all_ascii_digits (sym e) ∙ bad) ∙ and_false (ltb 0 (length word)))
-  where
-    and_false : (b : Bool) → (b && false) ≡ false
-    and_false true = refl
-    and_false false = refl
+  -- What `parse` converts a word to is the number that its digits write, if it is one and below the limit.
+  converted : {E : Type 0} (r : Result ℕ E) → ParsesUnsigned k 10 word r → (some all small : Bool) →
+      ltb 0 (length digits) ≡ some → all_ascii_digits digits ≡ all → ltb value (2 ^ k) ≡ small →
+      result_ok r ≡ cond (some && all && small) (Some value) None
+  converted (Ok n) h true true true p q s = ap Some (h.1 ∙ sym (decimal_digits.same digits (decimal_digits.to digits q)))
+  converted (Ok n) h false all small p q s = absurd (false≢true (sym p ∙ lt-ltb 0 (length digits) h.0.0.0))
+  converted (Ok n) h true false small p q s = absurd (false≢true (sym q ∙ decimal_digits.from digits h.0.0.1))
+  converted (Ok n) h true true false p q s =
+      let v : digits_value 10 digits ≡ value = sym (decimal_digits.same digits (decimal_digits.to digits q)) in
+      absurd (false≢true (sym s ∙ lt-ltb value (2 ^ k) (subst (λ (i : ℕ). i < 2 ^ k) v h.0.1)))
+  converted (Err x) h true true true p q s =
+      let v : value ≡ digits_value 10 digits = decimal_digits.same digits (decimal_digits.to digits q) in
+      absurd (h ((ltb-true 0 (length digits) p, decimal_digits.to digits q), subst (λ (i : ℕ). i < 2 ^ k) v (ltb-true value (2 ^ k) s)))
+  converted (Err x) h true true false p q s = refl
+  converted (Err x) h true false small p q s = refl
+  converted (Err x) h false all small p q s = refl
 
-pub some_number : (xs word : List ℕ) → xs ≡ word → all_ascii_digits xs ≡ true → not (eqb (length xs) 0) ≡ is_number word
-some_number xs word e good =
-    let same : not (eqb (length xs) 0) ≡ ltb 0 (length xs) = grind (arith, nat_tests) in
-    same ∙ sym (and_true (ltb 0 (length xs))) ∙ ap (λ b. ltb 0 (length xs) && b) (sym good) ∙ ap is_number e
-  where
-    and_true : (b : Bool) → (b && true) ≡ b
-    and_true true = refl
-    and_true false = refl
+  pub parsed : {E : Type 0} (r : Result ℕ E) → ParsesUnsigned k 10 word r → result_ok r ≡ number_below (2 ^ k) word
+  parsed r h = converted r h (ltb 0 (length digits)) (all_ascii_digits digits) (ltb value (2 ^ k)) refl refl refl
+
+  -- So it is of a word that was there.
+  pub number_read : (next : Option (List ℕ)) → Some word ≡ next → {E : Type 0} (r : Result ℕ E) → ParsesUnsigned k 10 word r → result_ok r ≡ number_in (2 ^ k) next
+  number_read next e r h = parsed r h ∙ ap (number_in (2 ^ k)) e
+
+  is_read : {E : Type 0} (r : Result ℕ E) → is_ok r ≡ is_some (result_ok r)
+  is_read (Ok n) = refl
+  is_read (Err x) = refl
+
+  pub is_parsed : {E : Type 0} (r : Result ℕ E) → ParsesUnsigned k 10 word r → is_ok r ≡ is_some (number_below (2 ^ k) word)
+  is_parsed r h = is_read r ∙ ap is_some (parsed r h)

@@ -8,8 +8,8 @@ loop-block-preserved g c =
     let blocks = g.S.Store.blocks in
     let n = length (blocks c.args.image.now) in
     let within : c.loop-block.block < n = omega (arith, c.size-block-end.ensures, c.loop-block-test.true) in
-    pattern_turn c.args.p n c.loop-block.block (blocks c.loop-block.image) (blocks c.put-block.new.store) (patterned c.args.p (blocks c.args.image.now))
-    c.pattern.result within c.loop-block.invariant c.pattern.ensures c.put-block.ensures.after
+    pattern_turn c.args.p n c.loop-block.block (blocks c.loop-block.image) (blocks c.put_block.new.store) (patterned c.args.p (blocks c.args.image.now))
+    c.pattern.result within c.loop-block.invariant c.pattern.ensures c.put_block.ensures.after
 
 pub returns : goal.returns
 returns g c =
