@@ -5,7 +5,7 @@ use Rattle.std.specs.Result.{result_ok}
 use Rattle.std.specs.Str.{all_ascii_digits}
 use Rattle.std.proofs.lemmas.Str.Parse.{IsNumeralModel, numerals_by_fold}
 use Rattle.std.proofs.lemmas.Bool.{false≢true, lt-ltb, ltb-true}
-use Rattle.cuwajimo.specs.Words.{is_number, value_after, number_below, number_in}
+use Rattle.cuwajimo.specs.Words.{value_after, number_below, number_in}
 
 decimal_digits : IsNumeralModel (λ ds. all_ascii_digits ds ≡ true) (value_after 0)
 decimal_digits = numerals_by_fold _ (search rules) value_after (search rules)

@@ -1,5 +1,5 @@
 -- A whole vector that was filled through a slice of it.
-use Rattle.std.proofs.Common.{◌≡◌, ℕ, ◌≤◌, List, ◌++◌, length, take, drop, sym, refl, ap, ◌∙◌, arith}
+use Rattle.std.proofs.Common.{◌≡◌, ℕ, ◌≤◌, List, ◌++◌, length, take, drop, ap, ◌∙◌, arith}
 use Rattle.std.proofs.lemmas.List.{take_all, take-append-le}
 
 pub refilled : (new old wanted : List ℕ) (n : ℕ) → new ≡ wanted → n ≡ length wanted → take n (new ++ drop (length new) old) ≡ wanted

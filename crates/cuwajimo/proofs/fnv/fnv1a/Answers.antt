@@ -1,6 +1,6 @@
-use Rattle.std.proofs.Common.{◌≡◌, ◌+◌, get_or, drop, sym, ap, ◌∙◌, arith, rules}
+use Rattle.std.proofs.Common.{◌+◌, drop, sym, ap, ◌∙◌, arith}
 use Rattle.std.proofs.lemmas.List.{at_drop_more, at_drop_all}
-use Rattle.cuwajimo.specs.Sums.{fnv, fnv_from, fnv_step}
+use Rattle.cuwajimo.specs.Sums.{fnv_from, fnv_step}
 use Rattle.cuwajimo.proofs.fnv.fnv1a.Goals as goal
 
 pub loop-b-preserved : goal.loop-b-preserved

@@ -1,4 +1,4 @@
-use Rattle.std.proofs.Common.{◌≡◌, ℕ, ◌+◌, ◌*◌, ◌<◌, ◌≤◌, true, cond, List, [], ◌∷◌, ◌++◌, length, get_or, is_ok, Some, None, vec_items, sym, refl, ap, ◌∙◌, subst, arith, rules}
+use Rattle.std.proofs.Common.{◌≡◌, ℕ, ◌+◌, ◌*◌, ◌<◌, ◌≤◌, cond, List, [], ◌∷◌, ◌++◌, length, get_or, is_ok, Some, None, vec_items, sym, ap, ◌∙◌, subst, arith}
 use Rattle.cuwajimo.specs.Words.{hex_digit, hex_bytes}
 use Rattle.cuwajimo.proofs.Hexadecimal.{FitsHalf, digit_small, first_turn, second_turn, refused_letter, refused_half, read_all}
 use Rattle.cuwajimo.proofs.Troubles.{blamed_for}
