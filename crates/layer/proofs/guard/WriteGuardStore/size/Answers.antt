@@ -1,6 +1,5 @@
-use Rattle.std.proofs.Common.{sym, ◌∙◌}
 use Rattle.layer.specs.Guards.{length_guard}
 use Rattle.layer.proofs.guard.WriteGuardStore.size.Goals as goal
 
 pub returns : goal.returns
-returns g c = let s = c.args.self.now in c.size.ensures ∙ sym (length_guard (g.S.Store.blocks s.below) s.first s.count)
+returns g c = let s = c.args.self.now in let e = length_guard (g.S.Store.blocks s.below) s.first s.count in cc
