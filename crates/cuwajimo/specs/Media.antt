@@ -1,5 +1,5 @@
 -- The memory of an image that the program makes by itself.
-use Rattle.std.specs.Prelude.{◌≡◌, ℕ, ◌+◌, ◌*◌, ◌/◌, cond, List, [], ◌∷◌, length, replicate, vec_items, Option, nat_le}
+use Rattle.std.specs.Prelude.{◌≡◌, ℕ, ◌+◌, ◌-◌, ◌*◌, ◌/◌, ◌^◌, min, cond, List, [], ◌∷◌, length, replicate, vec_items, Option, nat_le}
 use Rattle.flat.specs.Flat.{flat_count}
 use Rattle.raw.specs.Raw.{raw_count}
 use Rattle.cuwajimo.specs.declared.medium.Medium.{Medium}
@@ -19,6 +19,13 @@ ZeroFlat n (Raw bytes spares records) = ⊥
 -- A raw image in memory has 276 bytes for each record of each track. Of tracks with more records than a track may have nothing is made.
 abbrev pub track_bytes : ℕ → ℕ → ℕ
 track_bytes tracks records = cond (nat_le records 256) (tracks * 276 * records) 0
+
+-- The same, where a number of bytes stops at the largest of 64 bits.
+abbrev pub capped : ℕ → ℕ
+capped n = min n (2 ^ 64 - 1)
+
+abbrev pub capped_bytes : ℕ → ℕ → ℕ
+capped_bytes tracks records = capped (capped (cond (nat_le records 256) tracks 0 * 276) * records)
 
 -- They are all zero, and the spare places are as they are given.
 abbrev pub ZeroRaw : ℕ → List ℕ → Medium → Type 0

@@ -1,5 +1,5 @@
-ghost use Rattle.std.specs.Prelude.{◌≡◌, IfSome, IfOk, if◌then◌else◌, Some, None, nat_le};
-ghost use Rattle.cuwajimo.specs.Media.{ZeroFlat, track_bytes, ZeroRaw, medium_count};
+ghost use Rattle.std.specs.Prelude.{◌≡◌, IfOk, if◌then◌else◌, Some, None, nat_le};
+ghost use Rattle.cuwajimo.specs.Media.{ZeroFlat, capped_bytes, ZeroRaw, medium_count};
 
 use super::plan::Source;
 use super::trouble::{Spot, Trouble};
@@ -48,28 +48,26 @@ fn flat(heap: Global, blocks: u32) -> Result<Medium, Trouble>
     })
 }
 
-/// How many bytes so many tracks have, if memory can have so many. Tracks of a length that opening refuses are not allotted.
-fn track_bytes(tracks: usize, records: u32) -> Option<usize>
-    ensures { IfSome result (λ n. n ≡ track_bytes tracks records) }
+/// How many bytes so many tracks have. Tracks of a length that opening refuses are not allotted, and a number past what counts
+/// bytes stops at the largest, which no memory has.
+fn track_bytes(tracks: usize, records: u32) -> usize
+    ensures { result ≡ capped_bytes tracks records }
 {
-    if records > MOST_RECORDS {
-        return Some(0);
-    }
+    let tracks = if records <= MOST_RECORDS { tracks } else { 0 };
     tracks
-        .checked_mul(RECORD_BYTES)?
-        .checked_mul(records as usize)
+        .saturating_mul(RECORD_BYTES)
+        .saturating_mul(records as usize)
 }
 
 /// A raw image in memory, all zero.
 fn raw(heap: Global, records: u32, places: &[u8]) -> Result<Medium, Trouble>
     ensures { IfOk result (ZeroRaw records places.now) }
 {
-    let Some(length) = track_bytes(places.len(), records) else {
-        return Err(Trouble::Memory);
-    };
+    let spares = Vec::from_slice(heap, places)?;
+    let bytes = vec![in heap; 0u8; track_bytes(places.len(), records)]?;
     Ok(Medium::Raw {
-        bytes: vec![in heap; 0u8; length]?,
-        spares: Vec::from_slice(heap, places)?,
+        bytes,
+        spares,
         records,
     })
 }

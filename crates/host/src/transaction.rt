@@ -15,14 +15,14 @@ const BLOCK: u32 = 256;
 const SEGMENT: u32 = 32;
 
 /// What a transaction waits for: a segment, or the report.
-#[derive(Clone, Copy)]
+#[derive(Clone, Copy, PartialEq, Eq, Debug)]
 pub enum Phase {
     Execution,
     Report,
 }
 
 /// What a transaction has to report so far.
-#[derive(Clone, Copy)]
+#[derive(Clone, Copy, PartialEq, Eq, Debug)]
 pub enum Outcome {
     /// Nothing went wrong.
     Fine,

@@ -7,7 +7,7 @@ use message::command::Command;
 use message::message::Message;
 
 /// What a message that comes to the lock check asks for.
-#[derive(Clone, Copy)]
+#[derive(Clone, Copy, PartialEq, Eq, Debug)]
 pub enum Want {
     /// Neither a lock nor a unit.
     Pass,

@@ -4,7 +4,7 @@ ghost use Rattle.image.specs.Refusals.{refusal_group, refusal_code, refusal_text
 use std::fmt;
 
 /// Why lent memory is no image: the check that refused it, of those in this order.
-#[derive(Clone, Copy, PartialEq, Eq)]
+#[derive(Clone, Copy, PartialEq, Eq, Debug)]
 pub enum Refusal {
     /// a track has not 2 to 256 records
     Records,

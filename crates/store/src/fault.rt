@@ -7,14 +7,14 @@ use std::fmt;
 pub const BLOCK_BYTES: usize = 256;
 
 /// Whether a block may be written.
-#[derive(Clone, Copy, PartialEq, Eq)]
+#[derive(Clone, Copy, PartialEq, Eq, Debug)]
 pub enum Protection {
     Open,
     Protected,
 }
 
 /// Why a store refused a call.
-#[derive(Clone, Copy, PartialEq, Eq)]
+#[derive(Clone, Copy, PartialEq, Eq, Debug)]
 pub enum FaultKind {
     /// the buffer is not one block long
     Length,
@@ -27,7 +27,7 @@ pub enum FaultKind {
 }
 
 /// A refusal: its kind, and the block's number as the store that refused counts it.
-#[derive(Clone, Copy, PartialEq, Eq)]
+#[derive(Clone, Copy, PartialEq, Eq, Debug)]
 pub struct StoreFault {
     pub kind: FaultKind,
     pub block: u32,
