@@ -20,10 +20,11 @@ ZeroFlat n (Raw bytes spares records) = ⊥
 abbrev pub track_bytes : ℕ → ℕ → ℕ
 track_bytes tracks records = cond (nat_le records 256) (tracks * 276 * records) 0
 
--- The same, where a number of bytes stops at the largest of 64 bits.
+-- A number stops at the largest of 64 bits.
 abbrev pub capped : ℕ → ℕ
 capped n = min n (2 ^ 64 - 1)
 
+-- As many bytes, where each product stops there. No memory has so many.
 abbrev pub capped_bytes : ℕ → ℕ → ℕ
 capped_bytes tracks records = capped (capped (cond (nat_le records 256) tracks 0 * 276) * records)
 

@@ -6,19 +6,19 @@ use Rattle.std.specs.Str.Parse.{without_leading_plus}
 use Rattle.cuwajimo.specs.declared.trouble.Trouble.{Trouble}
 use Rattle.cuwajimo.specs.Troubles.{IfLine}
 
--- A word is a number, however large, if it is one decimal digit or more. A plus sign may stand before them.
-abbrev pub is_number : List ℕ → Bool
-is_number word = nat_lt 0 (length (without_leading_plus word)) && all_ascii_digits (without_leading_plus word)
+-- A word is a decimal number, however large, if it is one decimal digit or more. A plus sign may stand before them.
+abbrev pub is_decimal : List ℕ → Bool
+is_decimal word = nat_lt 0 (length (without_leading_plus word)) && all_ascii_digits (without_leading_plus word)
 
 -- The number that decimal digits write, after a number that stands before them.
 abbrev pub value_after : ℕ → List ℕ → ℕ
 value_after n [] = n
 value_after n (c ∷ cs) = value_after (10 * n + (c - 48)) cs
 
--- The number that a word writes, if it is a number and below the limit.
+-- The number that a word writes, if it is a decimal number below the limit.
 abbrev pub number_below : ℕ → List ℕ → Option ℕ
 number_below limit word =
-    cond (is_number word && nat_lt (value_after 0 (without_leading_plus word)) limit) (Some (value_after 0 (without_leading_plus word))) None
+    cond (is_decimal word && nat_lt (value_after 0 (without_leading_plus word)) limit) (Some (value_after 0 (without_leading_plus word))) None
 
 -- The same of a word that may be missing.
 abbrev pub number_in : ℕ → Option (List ℕ) → Option ℕ

@@ -43,11 +43,11 @@ raw_blocks bytes spares records protection = blocks_by (raw_size (length bytes) 
 
 -- The memory with new data in a record and its header byte 0 at 0; the other header bytes, CRC and ECC stay.
 abbrev pub with_data : List ℕ → ℕ → List ℕ → List ℕ
-with_data bytes record-number new = laid (slice_set bytes (276 * record-number) 0) (276 * record-number + 6) new
+with_data bytes record_number new = laid (slice_set bytes (276 * record_number) 0) (276 * record_number + 6) new
 
 -- The memory with a record's header byte 0 at 1.
 abbrev pub with_flag : List ℕ → ℕ → List ℕ
-with_flag bytes record-number = slice_set bytes (276 * record-number) 1
+with_flag bytes record_number = slice_set bytes (276 * record_number) 1
 
 -- The first track, counted from t, whose spare place is not in the track.
 abbrev pub misplaced_from : ℕ → ℕ → List ℕ → Option ℕ

@@ -3,11 +3,11 @@ use Rattle.std.proofs.Common.{◌≡◌, ℕ, zero, suc, ◌+◌, ◌-◌, ◌*�
 use Rattle.std.specs.List.{slice_get}
 use Rattle.std.proofs.lemmas.List.{append_assoc, take-append-le, drop-append-le, length-drop}
 use Rattle.store.specs.declared.fault.StoreFault.{StoreFault}
-use Rattle.store.specs.Blocks.{Block, buffer_at, read_at, write_at, open_block}
+use Rattle.store.specs.Blocks.{Block, buffer_at, write_at, open_block}
 use Rattle.host.specs.declared.fault.HostFault.{HostFault}
 use Rattle.host.specs.Progress.{first_fault}
-use Rattle.transfer.specs.Segments.{span, zeros, met_by, converted, met, read_fault, read_bytes, write_fault, put, put_next, write_tried, tried_next}
-use Rattle.transfer.proofs.Faults.{fault_by, read_faults, write_faults}
+use Rattle.transfer.specs.Segments.{span, zeros, met_by, converted, met, read_bytes, write_fault, put, put_next, write_tried, tried_next}
+use Rattle.transfer.proofs.Faults.{fault_by}
 
 pub span_cut : (bs : List Block) (b n m : ℕ) → span bs b (n + m) ≡ span bs b n ++ span bs (b + n) m
 span_cut bs b zero m = ap (span bs b) (zero-add m) ∙ ap (λ i. span bs i m) (sym (add-zero b))
@@ -42,17 +42,11 @@ module _ (answer : ℕ → Option Block → Result (Unit {0}) StoreFault) where
       ∙ ap (λ i. first_fault (fault_by answer u b a (o ∷ os)) (fault_by answer u i (suc a + (n - 1)) ps)) x
       ∙ ap (λ j. first_fault (fault_by answer u b a (o ∷ os)) (fault_by answer u (b + n) j ps)) y
 
-pub read_cut : (u b a : ℕ) (os ps : List (Option Block)) (n : ℕ) → n ≡ length os → read_fault u b a (os ++ ps) ≡ first_fault (read_fault u b a os) (read_fault u (b + n) (a + n) ps)
-read_cut u b a os ps n e =
-    read_faults u b a (os ++ ps)
-    ∙ fault_cut read_at u b a os ps n e
-    ∙ sym (ap₂ first_fault (read_faults u b a os) (read_faults u (b + n) (a + n) ps))
-
-pub write_cut : (u b a : ℕ) (os ps : List (Option Block)) (n : ℕ) → n ≡ length os → write_fault u b a (os ++ ps) ≡ first_fault (write_fault u b a os) (write_fault u (b + n) (a + n) ps)
-write_cut u b a os ps n e =
-    write_faults u b a (os ++ ps)
-    ∙ fault_cut write_at u b a os ps n e
-    ∙ sym (ap₂ first_fault (write_faults u b a os) (write_faults u (b + n) (a + n) ps))
+  -- So it is of what is the same.
+  module _ (fault : ℕ → ℕ → ℕ → List (Option Block) → Option HostFault) (same : (u b a : ℕ) (os : List (Option Block)) → fault u b a os ≡ fault_by answer u b a os) where
+    pub same_cut : (u b a : ℕ) (os ps : List (Option Block)) (n : ℕ) → n ≡ length os → fault u b a (os ++ ps) ≡ first_fault (fault u b a os) (fault u (b + n) (a + n) ps)
+    same_cut u b a os ps n e =
+        same u b a (os ++ ps) ∙ fault_cut u b a os ps n e ∙ sym (ap₂ first_fault (same u b a os) (same u (b + n) (a + n) ps))
 
 -- ---- A Write.
 

@@ -2,7 +2,7 @@
 use Rattle.std.proofs.Common.{◌≡◌, ℕ, ◌+◌, ◌*◌, ◌≤◌, true, cond, leb, ◌⊎◌, List, [], ◌++◌, length, take, drop, Some, None, Option, sym, refl, ap, ◌∙◌, subst, ap₂, inl, inr, arith}
 use Rattle.std.proofs.lemmas.Bool.{leb-true}
 use Rattle.std.proofs.lemmas.List.{append_assoc, append-nil, take-append-drop, take_at, drop_at, drop-drop, length-take}
-use Rattle.store.specs.Blocks.{Block}
+use Rattle.store.specs.Blocks.{Block, read_at, write_at}
 use Rattle.message.specs.declared.command.Command.{Command}
 use Rattle.message.specs.declared.command.Command.TheVariants as commands
 use Rattle.host.specs.declared.fault.HostFault.{HostFault}
@@ -12,7 +12,8 @@ use Rattle.host.specs.declared.transaction.Transaction.{Transaction}
 use Rattle.host.specs.Progress.{first_fault}
 use Rattle.transfer.specs.Segments.{span, read_fault, read_bytes, after_reading, write_fault, after_writing, put, write_tried, laid, Moved, read_moved, verified, untried, writing, write_by, moved_by_command, is_verify}
 use Rattle.transfer.proofs.Spans.{length_span, span_alike, laid_other, laid_cut}
-use Rattle.transfer.proofs.Cutting.{span_cut, bytes_cut, read_cut, write_cut, goes_on, stops}
+use Rattle.transfer.proofs.Cutting.{span_cut, bytes_cut, same_cut, goes_on, stops}
+use Rattle.transfer.proofs.Faults.{read_faults, write_faults}
 
 -- `one` is a segment of the n blocks from b on, `two` is what follows it, and `all` is both at once.
 pub record Joined (bs : List Block) (b n : ℕ) (one two all : Moved) : Type 0 where
@@ -48,7 +49,7 @@ module _ (bs : List Block) (b n m : ℕ) (t t' : Transaction) (unit : t'.unit �
     scan_fault : read_fault t.unit b t.at (span bs b (n + m)) ≡ first_fault (read_fault t.unit b t.at os) (read_fault t'.unit (b + n) t'.at ps)
     scan_fault =
         ap (read_fault t.unit b t.at) (span_cut bs b n m)
-        ∙ read_cut t.unit b t.at os ps n (sym (length_span bs b n))
+        ∙ same_cut read_at read_fault read_faults t.unit b t.at os ps n (sym (length_span bs b n))
         ∙ sym (ap₂ (λ (u a : ℕ). first_fault (read_fault t.unit b t.at os) (read_fault u (b + n) a ps)) unit at)
 
     scan_outcome : after_reading t.outcome (read_fault t.unit b t.at (span bs b (n + m))) ≡ after_reading t'.outcome (read_fault t'.unit (b + n) t'.at ps)
@@ -121,7 +122,7 @@ module _ (bs : List Block) (b n m : ℕ) (t t' : Transaction) (unit : t'.unit �
     write_fault_all : write_fault t.unit b t.at (span bs b (n + m)) ≡ first_fault failed (write_fault t'.unit (b + n) t'.at ps)
     write_fault_all =
         ap (write_fault t.unit b t.at) (span_cut bs b n m)
-        ∙ write_cut t.unit b t.at os ps n (sym (length_span bs b n))
+        ∙ same_cut write_at write_fault write_faults t.unit b t.at os ps n (sym (length_span bs b n))
         ∙ sym (ap₂ (λ (u a : ℕ). first_fault failed (write_fault u (b + n) a ps)) unit at)
 
     -- Every block of the first segment is written.

@@ -7,7 +7,8 @@ use Rattle.std.proofs.lemmas.Slice.{put_mid-paste}
 use Rattle.store.specs.Blocks.{Block, read_at, buffer_at}
 use Rattle.host.specs.Progress.{first_fault}
 use Rattle.transfer.proofs.Spans.{length_span}
-use Rattle.transfer.proofs.Cutting.{span_cut, bytes_cut, first_none, read_cut}
+use Rattle.transfer.proofs.Cutting.{span_cut, bytes_cut, first_none, same_cut}
+use Rattle.transfer.proofs.Faults.{read_faults}
 use Rattle.transfer.specs.Segments.{span, zeros, met_by, converted, read_fault, read_bytes}
 
 bytes_push : (os : List (Option Block)) (o : Option Block) → read_bytes (os ++ o ∷ []) ≡ read_bytes os ++ buffer_at zeros o
@@ -39,5 +40,5 @@ module _ (bs : List Block) (b k : ℕ) (ys : List ℕ) (here : ys ≡ buffer_at 
 pub fault_more : (u : ℕ) (bs : List Block) (b a k : ℕ) → read_fault u b a (span bs b (k + 1)) ≡ first_fault (read_fault u b a (span bs b k)) (met_by (converted (read_at (b + k) (slice_get bs (b + k)))) u (a + k))
 fault_more u bs b a k =
     ap (read_fault u b a) (span_cut bs b k 1)
-    ∙ read_cut u b a (span bs b k) (slice_get bs (b + k) ∷ []) k (sym (length_span bs b k))
+    ∙ same_cut read_at read_fault read_faults u b a (span bs b k) (slice_get bs (b + k) ∷ []) k (sym (length_span bs b k))
     ∙ ap (first_fault (read_fault u b a (span bs b k))) (first_none (met_by (converted (read_at (b + k) (slice_get bs (b + k)))) u (a + k)))

@@ -38,15 +38,15 @@ returns-in-Some g c =
     let own = sym c.in-Some.ensures.place in
     let free = sym (c.if-not-is_open.ensures ∙ ap answers_open c.protection.ensures ∙ answers_at (slice_get bs b) b) in
     let whole : length (get_or c.args.self.now.slots c.in-Some.place no_slot).bytes ≡ 256 = search rules in
-    let Kept-here = first_kept s.slots b p (first_place s.slots (Some b) p own) in
-    let here = open_kept bs s.slots b bytes free Kept-here whole in
+    let kept_here = first_kept s.slots b p (first_place s.slots (Some b) p own) in
+    let here = open_kept bs s.slots b bytes free kept_here whole in
     let got = open_read (means h) b buffer bytes c.if-buffer-ne-BLOCK_BYTES.false here in
     record {
       answer = got.0;
       buffer = c.copy_from_slice.ensures.after ∙ got.1;
       same = refl;
       held = sym (keeping_again h b p own) ∙ read_keeps h b buffer free (Ok tt) bytes got.0 got.1;
-      late = λ _ _. record { own = Kept-here ∙ ap Some (sym c.copy_from_slice.ensures.after); rest = inl (refl, λ i ne. refl) };
+      late = λ _ _. record { own = kept_here ∙ ap Some (sym c.copy_from_slice.ensures.after); rest = inl (refl, λ i ne. refl) };
     }
 
 pub returns : goal.returns
