@@ -20,4 +20,3 @@ pub mod WholeBlocks
 pub mod Transfers
 pub mod Sample
 pub mod Small
-pub mod NoHost
