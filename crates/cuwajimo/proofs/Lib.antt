@@ -1,6 +1,5 @@
 mod Comments
 mod Fills
-mod Firsts
 mod Hexadecimal
 mod Holders
 mod Layers

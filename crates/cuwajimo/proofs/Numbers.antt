@@ -5,7 +5,8 @@ use Rattle.std.specs.Result.{result_ok}
 use Rattle.std.specs.Str.{all_ascii_digits}
 use Rattle.std.proofs.lemmas.Str.Parse.{IsNumeralModel, numerals_by_fold}
 use Rattle.std.proofs.lemmas.Bool.{false≢true, lt-ltb, ltb-true}
-use Rattle.cuwajimo.specs.Words.{value_after, number_below, number_in}
+use Rattle.cuwajimo.specs.declared.trouble.Trouble.{Trouble}
+use Rattle.cuwajimo.specs.Words.{ReadBy, value_after, number_below, number_in}
 
 decimal_digits : IsNumeralModel (λ ds. all_ascii_digits ds ≡ true) (value_after 0)
 decimal_digits = numerals_by_fold _ (search rules) value_after (search rules)
@@ -37,13 +38,19 @@ module _ (k : ℕ) (word : List ℕ) where
   pub parsed : {E : Type 0} (r : Result ℕ E) → ParsesUnsigned k 10 word r → result_ok r ≡ number_below (2 ^ k) word
   parsed r h = converted r h (ltb 0 (length digits)) (all_ascii_digits digits) (ltb value (2 ^ k)) refl refl refl
 
-  -- So it is of a word that was there.
-  pub number_read : (next : Option (List ℕ)) → Some word ≡ next → {E : Type 0} (r : Result ℕ E) → ParsesUnsigned k 10 word r → result_ok r ≡ number_in (2 ^ k) next
-  number_read next e r h = parsed r h ∙ ap (number_in (2 ^ k)) e
-
   is_read : {E : Type 0} (r : Result ℕ E) → is_ok r ≡ is_some (result_ok r)
   is_read (Ok n) = refl
   is_read (Err x) = refl
 
   pub is_parsed : {E : Type 0} (r : Result ℕ E) → ParsesUnsigned k 10 word r → is_ok r ≡ is_some (number_below (2 ^ k) word)
   is_parsed r h = is_read r ∙ ap is_some (parsed r h)
+
+-- A word that is read as `parse` reads such numbers is read as one.
+pub read_by : (k : ℕ) (next : Option (List ℕ)) (result : Result ℕ Trouble) {E : Type 0} (gives : List ℕ → Result ℕ E → Type 0) →
+    ((word : List ℕ) (r : Result ℕ E) → gives word r → ParsesUnsigned k 10 word r) → ReadBy gives next result → result_ok result ≡ number_in (2 ^ k) next
+read_by k None result gives parses h = h
+read_by k (Some word) result gives parses h = h.2 ∙ parsed k word h.0 (parses word h.0 h.1)
+
+pub read_here : {X E : Type 0} (gives : List ℕ → Result X E → Type 0) (next : Option (List ℕ)) (word : List ℕ) → Some word ≡ next →
+    (r : Result X E) → gives word r → (result : Result X Trouble) → result_ok result ≡ result_ok r → ReadBy gives next result
+read_here gives next word there r given result same = subst (λ n. ReadBy gives n result) there (r, given, same)

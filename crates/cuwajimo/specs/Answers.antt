@@ -10,14 +10,10 @@ use Rattle.device.specs.Device.{locks_of}
 use Rattle.cuwajimo.specs.declared.say.Lock.{Lock}
 use Rattle.cuwajimo.specs.declared.say.Lock.TheVariants as locks
 
--- The kind of ticket that a command gets, and what comes after a segment.
-abbrev pub kind_of_ticket : Ticket → List ℕ
-kind_of_ticket (Execution ticket) = codes "execution"
-kind_of_ticket (Report ticket) = codes "report"
-
-abbrev pub what_follows : Ticket → List ℕ
-what_follows (Execution ticket) = codes "more"
-what_follows (Report ticket) = codes "report"
+-- What a ticket is for: the segments of its transaction, for which there is this word, or its report.
+abbrev pub phase_word : Ticket → List ℕ → List ℕ
+phase_word (Execution ticket) segments = segments
+phase_word (Report ticket) segments = codes "report"
 
 -- A lock among those of a host; a host above 7 has none.
 abbrev pub lock_among : Lock → Result Locks Status → Bool

@@ -33,10 +33,7 @@ impl Case {
     pub(super) fn first(&self) -> Option<&Call>
         ensures { option_map (λ x. x.now) result ≡ first_of (calls_on self.now ++ calls_off self.now) }
     {
-        match self.on.first() {
-            Some(call) => Some(call),
-            None => self.off.first(),
-        }
+        self.on.first().or(self.off.first())
     }
 
     /// Adds a call after those that are there.

@@ -1,6 +1,7 @@
 ghost use Rattle.std.specs.Prelude.{◌≡◌};
 ghost use Rattle.cuwajimo.specs.Plans.{no_blocks, all_blocks, shown_run, guarded_run, NothingAsked};
 
+use super::files::ImageFile;
 use flex::unit::Unit;
 use std::alloc::Global;
 use store::fault::Protection;
@@ -40,9 +41,8 @@ pub enum Source {
     },
     /// a flat image in two files, the blocks and the damage map
     FlatFiles {
-        line: u32,
-        bytes: String,
-        damage: String,
+        bytes: ImageFile,
+        damage: ImageFile,
     },
     /// a raw image in memory
     Raw {
@@ -51,9 +51,8 @@ pub enum Source {
     },
     /// a raw image in two files, the records and the spare places
     RawFiles {
-        line: u32,
-        bytes: String,
-        spares: String,
+        bytes: ImageFile,
+        spares: ImageFile,
         records: u32,
     },
 }

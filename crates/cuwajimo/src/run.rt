@@ -2,49 +2,29 @@ use super::call::{Act, Call};
 use super::case::Case;
 use super::fill::prepare;
 use super::medium::{Medium, load};
-use super::pile::{Job, on_pile};
+use super::pile::{Serve, Show, on_pile};
 use super::plan::Source;
 use super::say;
 use super::session::Outcome;
 use super::trouble::{Spot, Trouble};
-use std::fs;
-
-/// That a file can be opened, before anything is done.
-fn check_file(rt: &HostRuntime, line: u32, path: &str) -> Result<(), Trouble> {
-    match fs::open(rt, path) {
-        Ok(_) => Ok(()),
-        Err(e) => Err(Spot {
-            heap: rt.alloc(),
-            line,
-        }
-        .file("cannot open", path, e)),
-    }
-}
 
 /// That the files of every case can be opened.
 pub(super) fn check_files(rt: &HostRuntime, cases: &[Case]) -> Result<(), Trouble> {
     for case in cases {
         match &case.plan.source {
-            Some(
-                Source::FlatFiles {
-                    line,
-                    bytes,
-                    damage,
-                },
-            ) => {
-                check_file(rt, *line, bytes.as_str())?;
-                check_file(rt, *line, damage.as_str())?;
+            Some(Source::FlatFiles { bytes, damage: map }) => {
+                bytes.check(rt)?;
+                map.check(rt)?;
             }
             Some(
                 Source::RawFiles {
-                    line,
                     bytes,
                     spares,
                     records: _,
                 },
             ) => {
-                check_file(rt, *line, bytes.as_str())?;
-                check_file(rt, *line, spares.as_str())?;
+                bytes.check(rt)?;
+                spares.check(rt)?;
             }
             _ => {}
         }
@@ -52,35 +32,21 @@ pub(super) fn check_files(rt: &HostRuntime, cases: &[Case]) -> Result<(), Troubl
     Ok(())
 }
 
-/// Writes a file.
-fn write_file(rt: &HostRuntime, line: u32, path: &str, bytes: &[u8]) -> Result<(), Trouble> {
-    match fs::write(rt, path, bytes) {
-        Ok(()) => Ok(()),
-        Err(e) => Err(Spot {
-            heap: rt.alloc(),
-            line,
-        }
-        .file("cannot write", path, e)),
-    }
-}
-
 /// Writes the image back to the files that it came from. A raw image's spare places never change.
 fn save(rt: &HostRuntime, line: u32, source: &Source, medium: &Medium) -> Result<(), Trouble> {
     match (source, medium) {
         (
             Source::FlatFiles {
-                line: _,
                 bytes: to,
                 damage: map,
             },
             Medium::Flat { bytes, damage },
         ) => {
-            write_file(rt, line, to.as_str(), bytes.as_slice())?;
-            write_file(rt, line, map.as_str(), damage.as_slice())?;
+            to.write(rt, line, bytes.as_slice())?;
+            map.write(rt, line, damage.as_slice())?;
         }
         (
             Source::RawFiles {
-                line: _,
                 bytes: to,
                 spares: _,
                 records: _,
@@ -90,9 +56,7 @@ fn save(rt: &HostRuntime, line: u32, source: &Source, medium: &Medium) -> Result
                 spares: _,
                 records: _,
             },
-        ) => {
-            write_file(rt, line, to.as_str(), bytes.as_slice())?;
-        }
+        ) => to.write(rt, line, bytes.as_slice())?,
         _ => {
             println!(rt; "save: no file")?;
             return Ok(());
@@ -114,7 +78,7 @@ fn answer_off(
         Act::Blocks { first, count } => {
             let first = *first;
             let count = *count;
-            on_pile(rt, case, medium, Job::Show { first, count })?;
+            on_pile(rt, case, medium, Show { first, count })?;
             Ok(())
         }
         Act::Save => save(rt, call.line, source, medium),
@@ -140,10 +104,7 @@ fn finish(
 
 /// The calls of a case that has no device.
 fn decline(rt: &HostRuntime, case: &Case) -> Result<(), Trouble> {
-    for call in case.on.iter() {
-        say::nothing(rt, &call.act)?;
-    }
-    for call in case.off.iter() {
+    for call in case.on.iter().chain(case.off.iter()) {
         say::nothing(rt, &call.act)?;
     }
     Ok(())
@@ -163,7 +124,7 @@ fn run_case(rt: &HostRuntime, case: &Case) -> Result<(), Trouble> {
     };
     let mut medium = load(rt, source)?;
     prepare(&mut medium, case.plan.fills.as_slice());
-    match on_pile(rt, case, &mut medium, Job::Serve)? {
+    match on_pile(rt, case, &mut medium, Serve)? {
         Outcome::Served => finish(rt, case, source, &mut medium),
         Outcome::Refused => decline(rt, case),
     }

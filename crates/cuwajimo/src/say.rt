@@ -1,21 +1,18 @@
 ghost use Rattle.std.specs.Prelude.{◌≡◌};
-ghost use Rattle.cuwajimo.specs.Answers.{kind_of_ticket, what_follows, holds, first_holder};
+ghost use Rattle.cuwajimo.specs.Answers.{phase_word, holds, first_holder};
 
 use super::call::Act;
-use super::desk::HOSTS;
 use super::fnv::fnv1a;
 use super::trouble::Trouble;
+use device::controller::HOSTS;
 use device::device::Device;
 use device::ticket::Ticket;
 use flex::status::Status;
 use host::fault::HostFault;
+use host::locks::UNITS;
 use message::parameters::Parameters;
 use store::store::Store;
-
-/// How many bytes a report has, and how many units can be locked.
-const REPORT_BYTES: usize = 13;
-
-const UNITS: u8 = 15;
+use transfer::report::REPORT_BYTES;
 
 /// `NAME H: refused 4/3`
 pub(super) fn refused(
@@ -48,22 +45,12 @@ pub(super) fn refused_buffer(
     say_buffer(rt, buffer)
 }
 
-/// What a command's ticket is for.
-pub(super) fn opened(ticket: &Ticket) -> &'static str
-    ensures { result.now ≡ kind_of_ticket ticket.now }
+/// What a ticket is for: its transaction's segments, for which there is this word, or its report.
+pub(super) fn phase(ticket: &Ticket, segments: &'static str) -> &'static str
+    ensures { result.now ≡ phase_word ticket.now segments.now }
 {
     match ticket {
-        Ticket::Execution(_) => "execution",
-        Ticket::Report(_) => "report",
-    }
-}
-
-/// What comes after a segment.
-pub(super) fn follows(ticket: &Ticket) -> &'static str
-    ensures { result.now ≡ what_follows ticket.now }
-{
-    match ticket {
-        Ticket::Execution(_) => "more",
+        Ticket::Execution(_) => segments,
         Ticket::Report(_) => "report",
     }
 }
@@ -135,7 +122,7 @@ fn has<S: Store>(device: &Device<S>, host: u8, lock: Lock) -> bool
 fn holder<S: Store>(device: &Device<S>, lock: Lock) -> Option<u8>
     ensures { result ≡ first_holder device.now.controller lock }
 {
-    for host in 0..HOSTS {
+    for host in 0..HOSTS as u8 {
         if has(device, host, lock) {
             return Some(host);
         }
@@ -150,7 +137,7 @@ pub(super) fn locks<S: Store>(rt: &HostRuntime, device: &Device<S>) -> Result<()
         None => print!(rt; "locks: device none units")?,
     }
     let mut any = false;
-    for unit in 0..UNITS {
+    for unit in 0..UNITS as u8 {
         if let Some(host) = holder(device, Lock::Unit(unit)) {
             print!(rt; " {unit}={host}")?;
             any = true;

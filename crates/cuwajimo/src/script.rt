@@ -4,6 +4,7 @@ ghost use Rattle.cuwajimo.specs.Lines.{before_comment};
 use super::build;
 use super::call::read_call;
 use super::case::Case;
+use super::line::Line;
 use super::trouble::{Spot, Trouble};
 use std::alloc::Global;
 
@@ -18,14 +19,16 @@ fn statement(line: &str) -> &str
 }
 
 /// Adds what one line says to the case that is being read.
-fn read_line(spot: Spot, case: &mut Case, line: &str) -> Result<(), Trouble> {
-    match read_call(spot, line)? {
+fn read_line(line: Line<'_>, case: &mut Case) -> Result<(), Trouble> {
+    match read_call(line)? {
         Some(call) => case.add(call),
-        None if case.first().is_none() => build::read(spot, &mut case.plan, line),
-        None => Err(spot.about(
-            "no call, and what builds stands before the first call:",
-            line.trim(),
-        )),
+        None if case.first().is_none() => build::read(line, &mut case.plan),
+        None => Err(
+            line.spot.about(
+                "no call, and what builds stands before the first call:",
+                line.text,
+            ),
+        ),
     }
 }
 
@@ -33,15 +36,17 @@ fn read_line(spot: Spot, case: &mut Case, line: &str) -> Result<(), Trouble> {
 pub(super) fn cases(heap: Global, text: &str) -> Result<Vec<Case>, Trouble> {
     let mut cases = Vec::new(heap);
     let mut case = Case::new(heap);
+    // counted by hand, since the numbers of a text of more lines than they count stay at the largest
     let mut line = 0u32;
     for whole in text.lines() {
         line = line.saturating_add(1);
-        let said = statement(whole).trim();
-        if said == "reset" {
+        let text = statement(whole).trim();
+        if text == "reset" {
             cases.push(case)?;
             case = Case::new(heap);
-        } else if !said.is_empty() {
-            read_line(Spot { heap, line }, &mut case, said)?;
+        } else if !text.is_empty() {
+            let spot = Spot { heap, line };
+            read_line(Line { spot, text }, &mut case)?;
         }
     }
     cases.push(case)?;

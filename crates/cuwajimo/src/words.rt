@@ -2,55 +2,58 @@ ghost use Rattle.std.specs.Prelude.{◌≡◌, ◌^◌, not, is_some, is_ok};
 ghost use Rattle.std.specs.Option.{option_map};
 ghost use Rattle.std.specs.Result.{result_ok};
 ghost use Rattle.cuwajimo.specs.Troubles.{Blamed};
-ghost use Rattle.cuwajimo.specs.Words.{number_below, number_in, hex_digit, HexAdded};
+ghost use Rattle.cuwajimo.specs.Words.{ReadBy, number_below, number_in, hex_digit, HexAdded};
 
 use super::trouble::{Spot, Trouble};
+use std::str::FromStr;
 
 /// A word that has to be there.
 pub(super) fn word<'a>(spot: Spot, next: Option<&'a str>) -> Result<&'a str, Trouble>
     ensures value { option_map (λ x. x.now) (result_ok result) ≡ option_map (λ x. x.now) next.entry }
     ensures line { Blamed spot.line result }
 {
-    match next {
-        Some(word) => Ok(word),
-        None => Err(spot.trouble("a word is missing")),
+    let Some(word) = next else {
+        return Err(spot.trouble("a word is missing"));
+    };
+    Ok(word)
+}
+
+/// A word that has to be there and to stand for a value of the type, or the trouble in these words.
+fn parsed<T: FromStr + Drop>(spot: Spot, next: Option<&str>, wanted: &str) -> Result<T, Trouble>
+where
+    T::Err: Drop,
+    ensures value { ReadBy T.from_str_gives (option_map (λ x. x.now) next.entry) result }
+    ensures line { Blamed spot.line result }
+{
+    let word = word(spot, next)?;
+    match word.parse::<T>() {
+        Ok(value) => Ok(value),
+        Err(_) => Err(spot.about(wanted, word)),
     }
 }
 
-/// A decimal number that fits.
+/// A decimal number of four bytes.
 pub(super) fn number(spot: Spot, next: Option<&str>) -> Result<u32, Trouble>
     ensures value { result_ok result ≡ number_in (2 ^ 32) (option_map (λ x. x.now) next.entry) }
     ensures line { Blamed spot.line result }
 {
-    let word = word(spot, next)?;
-    match word.parse::<u32>() {
-        Ok(n) => Ok(n),
-        Err(_) => Err(spot.about("not a number that fits:", word)),
-    }
+    parsed(spot, next, "not a number that fits:")
 }
 
-/// A decimal number that fits two bytes.
+/// A decimal number of two bytes.
 pub(super) fn short(spot: Spot, next: Option<&str>) -> Result<u16, Trouble>
     ensures value { result_ok result ≡ number_in (2 ^ 16) (option_map (λ x. x.now) next.entry) }
     ensures line { Blamed spot.line result }
 {
-    let word = word(spot, next)?;
-    match word.parse::<u16>() {
-        Ok(n) => Ok(n),
-        Err(_) => Err(spot.about("not a number from 0 to 65535:", word)),
-    }
+    parsed(spot, next, "not a number from 0 to 65535:")
 }
 
-/// A decimal number that fits a byte.
+/// A decimal number of one byte.
 pub(super) fn byte(spot: Spot, next: Option<&str>) -> Result<u8, Trouble>
     ensures value { result_ok result ≡ number_in (2 ^ 8) (option_map (λ x. x.now) next.entry) }
     ensures line { Blamed spot.line result }
 {
-    let word = word(spot, next)?;
-    match word.parse::<u8>() {
-        Ok(n) => Ok(n),
-        Err(_) => Err(spot.about("not a number from 0 to 255:", word)),
-    }
+    parsed(spot, next, "not a number from 0 to 255:")
 }
 
 /// Nothing more may stand on the line.
@@ -71,11 +74,6 @@ pub(super) fn is_number(word: &str) -> bool
     word.parse::<u32>().is_ok()
 }
 
-/// The word after so many.
-pub(super) fn nth(line: &str, before: usize) -> Option<&str> {
-    line.split_whitespace().skip(before).next()
-}
-
 /// What a hexadecimal digit stands for, or none.
 fn digit(letter: u8) -> Option<u8>
     ensures { result ≡ hex_digit letter }
@@ -89,7 +87,7 @@ fn digit(letter: u8) -> Option<u8>
 }
 
 /// Adds a word's bytes, two hexadecimal digits each.
-fn add_hex(spot: Spot, bytes: &mut Vec<u8>, word: &str) -> Result<(), Trouble>
+pub(super) fn add_hex(spot: Spot, bytes: &mut Vec<u8>, word: &str) -> Result<(), Trouble>
     ensures { HexAdded word.now bytes.old.items bytes.new.items result }
 {
     let mut high = None;
@@ -109,13 +107,4 @@ fn add_hex(spot: Spot, bytes: &mut Vec<u8>, word: &str) -> Result<(), Trouble>
         None => Ok(()),
         Some(_) => Err(spot.about("an odd number of hexadecimal digits:", word)),
     }
-}
-
-/// The bytes that stand in hexadecimal digits after so many words.
-pub(super) fn hex(spot: Spot, line: &str, before: usize) -> Result<Vec<u8>, Trouble> {
-    let mut bytes = Vec::new(spot.heap);
-    for word in line.split_whitespace().skip(before) {
-        add_hex(spot, &mut bytes, word)?;
-    }
-    Ok(bytes)
 }
