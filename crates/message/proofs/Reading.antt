@@ -1,7 +1,7 @@
 -- What the decoder's step makes of a code, told by the part that the code and the bytes after it spell.
 use Rattle.std.proofs.Common.{◌≡◌, ℕ, ◌+◌, ◌-◌, ◌<◌, ◌≤◌, Bool, true, false, cond, ◌&&◌, eqb, leb, ◌⊎◌, List, [], ◌∷◌, ◌++◌, length, take, drop, Some, None, Ok, Err, Option, Result, sym, refl, ap, ◌∙◌, inl, inr, ⊎_elim, arith}
 use Rattle.std.proofs.lemmas.List.{length-append, length-drop, length-take-le, take-append-le, drop-append-le, take-append-drop, take_at}
-use Rattle.std.proofs.lemmas.Bool.{eqb-true, ne_eqb, le-leb, lt-leb, leb-true, and_from, and_parts, cond-true, cond-false, cases_Bool, cases_eq, cases_lt}
+use Rattle.std.proofs.lemmas.Bool.{eqb-true, ne_eqb, le-leb, lt-leb, leb-true, and_from, and_parts, cond-true, cond-false, false_from_ne_true, cases_Bool, cases_eq, cases_lt}
 use Rattle.std.proofs.lemmas.Option.{none-some}
 use Rattle.message.specs.declared.command.Command.{Command}
 use Rattle.message.specs.declared.command.Command.TheVariants.{Read, Write, Verify, SetDeviceLock, DeleteDeviceLock, SetUnitLock, DeleteUnitLock}
@@ -15,7 +15,6 @@ use Rattle.message.specs.Messages.{takes_unit, takes_address, takes_length, take
 use Rattle.message.specs.Decoding.{taking, place_read, vector_read, amount_read, command_read, command_set, step}
 use Rattle.message.specs.Arrangements.{single, by_vector, Part, no_op, set_unit, set_address, set_length, real, Opens, operand_size, Tells, Carries}
 use Rattle.flex.proofs.Cases.{absent}
-use Rattle.message.proofs.Cases.{refuted}
 
 -- whether a draft takes a part
 abbrev pub takes : Draft → Part → Bool
@@ -117,13 +116,13 @@ pub step_unknown : (m : UnitMap) (d : Draft) (code : ℕ) (rest : List ℕ) → 
 step_unknown m d code rest none =
     let a : eqb code 0x34 ≡ false = ne_eqb code 0x34 (λ e. none no_op e) in
     let b : (leb 0x20 code && leb code 0x2f) ≡ false =
-    refuted _ (λ t.
+    false_from_ne_true _ (λ t.
     let p = and_parts (leb 0x20 code) _ t in
     let low : 0x20 ≤ code = leb-true _ _ p.0 in
     let high : code ≤ 0x2f = leb-true _ _ p.1 in
     none (set_unit (code - 0x20)) (omega arith, omega arith)) in
     let c : (leb 0x10 code && leb code 0x11) ≡ false =
-    refuted _ (λ t.
+    false_from_ne_true _ (λ t.
     let p = and_parts (leb 0x10 code) _ t in
     let low : 0x10 ≤ code = leb-true _ _ p.0 in
     let high : code ≤ 0x11 = leb-true _ _ p.1 in

@@ -72,13 +72,11 @@ impl Draft {
     pub(super) fn with_unit(self, map: &UnitMap, number: u8) -> Result<Draft, Status>
         ensures { result ≡ with_unit map.now self number }
     {
-        match map.geometry(number) {
-            Some(_) => Ok(Draft {
-                unit: Some(number),
-                ..self
-            }),
-            None => Err(Status::ModuleAddressing),
-        }
+        map.geometry(number).ok_or(Status::ModuleAddressing)?;
+        Ok(Draft {
+            unit: Some(number),
+            ..self
+        })
     }
 
     /// With a single address, of six bytes.
@@ -97,16 +95,14 @@ impl Draft {
     pub(super) fn with_vector(self, map: &UnitMap, vector: Vector) -> Result<Draft, Status>
         ensures { result ≡ with_vector map.now self vector }
     {
-        let Some(geometry) = map.geometry(self.effective()) else {
-            return Err(Status::AddressBounds);
-        };
-        match geometry.address_at(vector) {
-            Some(address) => Ok(Draft {
-                address: Some(address),
-                ..self
-            }),
-            None => Err(Status::AddressBounds),
-        }
+        let address = map
+            .geometry(self.effective())
+            .and_then(|geometry| geometry.address_at(vector))
+            .ok_or(Status::AddressBounds)?;
+        Ok(Draft {
+            address: Some(address),
+            ..self
+        })
     }
 
     pub(super) fn with_length(self, length: u32) -> Result<Draft, Status>
