@@ -19,13 +19,13 @@ use Rattle.message.proofs.Reading.{given}
 
 -- a draft with another unit, address or length
 abbrev pub draft_unit : Draft → ℕ → Draft
-draft_unit d u = record { own = d.own; unit = Some u; address = d.address; length = d.length; command = d.command }
+draft_unit d u = record d { unit = Some u }
 
 abbrev pub draft_address : Draft → ℕ → Draft
-draft_address d address = record { own = d.own; unit = d.unit; address = Some address; length = d.length; command = d.command }
+draft_address d address = record d { address = Some address }
 
 abbrev pub draft_length : Draft → ℕ → Draft
-draft_length d n = record { own = d.own; unit = d.unit; address = d.address; length = Some n; command = d.command }
+draft_length d n = record d { length = Some n }
 
 module _ (m : UnitMap) where
   -- a unit is in the map, or is the controller, just where a message sees a geometry of it

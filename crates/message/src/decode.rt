@@ -47,6 +47,8 @@ fn set_command(draft: Draft, code: u8) -> Result<(Draft, usize), Status>
 }
 
 /// What a code makes of a draft, and how many of the bytes after it it takes.
+// A count and not the bytes that are left: those are no plainer, since each function that reads operands would name a
+// lifetime, and each of their contracts would have to say what is dropped.
 fn step(map: &UnitMap, draft: Draft, code: u8, rest: &[u8]) -> Result<(Draft, usize), Status>
     ensures { result ≡ step map.now draft code rest.now }
 {
