@@ -1,5 +1,6 @@
 ghost use Rattle.std.specs.Prelude.{◌≡◌, ◌≤◌, true, length, take};
-ghost use Rattle.flex.specs.Units.{all_apart, counted, every, inside};
+ghost use Rattle.std.specs.List.{list_all};
+ghost use Rattle.flex.specs.Units.{all_apart, counted, inside};
 
 use super::unit::Unit;
 
@@ -13,13 +14,14 @@ pub(super) const UNITS: usize = 15;
 #[derive(Clone, Copy)]
 pub struct UnitMap {
     units: [Unit; UNITS],
+    // The device has no heap, so the units are an array with their count beside it.
     count: u8,
     end: u32,
     ghost full: { length units ≡ 15 },
     ghost some: { 1 ≤ count },
     ghost few: { count ≤ 15 },
     ghost reachable: { end ≤ 4194304 },
-    ghost counts: { every counted (take count units) ≡ true },
+    ghost counts: { list_all counted (take count units) ≡ true },
     ghost once: { all_apart (take count units) ≡ true },
-    ghost within: { every (inside end) (take count units) ≡ true },
+    ghost within: { list_all (inside end) (take count units) ≡ true },
 }
