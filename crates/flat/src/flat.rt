@@ -13,6 +13,8 @@ use store::fault::{BLOCK_BYTES, FaultKind, Protection, StoreFault};
 use store::store::Store;
 
 /// Lent memory with block b at byte 256 x b, and a lent map of one bit a block.
+// One text for this and a raw image would be no plainer: only the five calls of `Store` are alike,
+// and each says of its own memory what is left there.
 #[derive(Drop)]
 pub struct FlatImage<'a> {
     bytes: &'a mut [u8],
@@ -29,6 +31,7 @@ pub fn flat_count(bytes: usize, damage: usize) -> Option<u32>
         && blocks <= BLOCK_LIMIT
         && damage == blocks.div_ceil(MARKS_A_BYTE)
     {
+        // not `then_some`, which would make the cast of any number
         Some(blocks as u32)
     } else {
         None
