@@ -9,7 +9,7 @@ pub(super) fn is_marked(damage: &[u8], block: usize) -> bool
     requires { block / 8 < length damage.now }
     ensures { result ≡ marked damage.now block }
 {
-    (damage[block / MARKS_A_BYTE] >> (block % MARKS_A_BYTE)) % 2 == 1
+    (damage[block / MARKS_A_BYTE] >> (block % MARKS_A_BYTE)) & 1 == 1
 }
 
 /// Marks a block damaged.

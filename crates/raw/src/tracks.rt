@@ -15,7 +15,7 @@ pub(super) fn record_start(spares: &[u8], records: usize, block: usize) -> usize
     let blocks = records - 1;
     let track = block / blocks;
     let nth = block % blocks;
-    let place = if nth < spares[track] as usize {
+    let place = if nth < usize::from(spares[track]) {
         nth
     } else {
         nth + 1
@@ -28,10 +28,8 @@ pub(super) fn first_misplaced(spares: &[u8], records: u32) -> Option<u32>
     requires { length spares.now < 4294967296 }
     ensures { result ≡ misplaced records spares.now }
 {
-    for (track, place) in spares.iter().enumerate() {
-        if u32::from(*place) >= records {
-            return Some(track as u32);
-        }
-    }
-    None
+    let track = spares
+        .iter()
+        .position(|place| u32::from(*place) >= records)?;
+    Some(track as u32)
 }

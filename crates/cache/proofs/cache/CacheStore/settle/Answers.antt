@@ -9,7 +9,7 @@ loop-place-init g c =
     let s = c.args.self.now in
     let bs = g.S.Store.blocks s.below in
     let eight : length c.args.self.now.slots ≡ 8 = search rules in
-    let none = drop_all (length s.slots) s.slots (omega arith) in
+    let none = drop_all 8 s.slots (omega arith) in
     (same_held refl (sym (ap (put_all bs) none)) refl, subst WholeSlots (sym none) tt, omega arith, eight)
 
 pub loop-place-preserved : goal.loop-place-preserved

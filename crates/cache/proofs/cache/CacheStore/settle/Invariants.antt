@@ -10,6 +10,3 @@ invariant-loop-place g l =
     × WholeSlots (drop l.place l.initial.self.slots)
     × (l.place ≤ 8)
     × (length l.initial.self.slots ≡ 8)
-
-abbrev pub decreases-loop-place : goal.decreases-loop-place
-decreases-loop-place g l = l.place
