@@ -1,5 +1,5 @@
 -- A test of the hosts of a table, each with its place: one of them passes it, or none.
-use Rattle.std.proofs.Common.{◌≡◌, ℕ, zero, suc, ◌+◌, ◌<◌, Bool, true, false, ◌||◌, List, length, get_or, sym, refl, ap, ◌∙◌, arith, zero-add}
+use Rattle.std.proofs.Common.{◌≡◌, ℕ, zero, suc, ◌<◌, Bool, true, false, ◌||◌, List, length, get_or, sym, refl, ap, ◌∙◌, arith, zero-add}
 use Rattle.std.proofs.lemmas.Bool.Decides.{nat_tests}
 use Rattle.std.specs.List.{list_any, enumerate_from}
 use Rattle.std.proofs.lemmas.List.FromFn.{length-enumerate_from, get_or-enumerate_from}
@@ -31,7 +31,7 @@ any_place q hosts =
     λ k l. ap test (get_or-enumerate_from 0 hosts k (0, blank) l) ∙ ap (λ i. q i (host_at hosts k)) (zero-add k) in
     let long = length-enumerate_from 0 hosts in
     sym (
-      or_is (list_any test) test refl (λ _ _. refl) (enumerate_from 0 hosts) (0, blank) (some_below (λ g. q g (host_at hosts g)) (length hosts))
-          (λ e. let f = some_passes (λ g. q g (host_at hosts g)) (length hosts) e in (f.0, omega (arith, f.1), at f.0 f.1 ∙ f.2))
-          (λ e k l. let m : k < length hosts = omega arith in at k m ∙ none_passes (λ g. q g (host_at hosts g)) (length hosts) e k m)
+    or_is (list_any test) test refl (λ _ _. refl) (enumerate_from 0 hosts) (0, blank) (some_below (λ g. q g (host_at hosts g)) (length hosts))
+    (λ e. let f = some_passes (λ g. q g (host_at hosts g)) (length hosts) e in (f.0, omega (arith, f.1), at f.0 f.1 ∙ f.2))
+    (λ e k l. let m : k < length hosts = omega arith in at k m ∙ none_passes (λ g. q g (host_at hosts g)) (length hosts) e k m)
     )

@@ -1,5 +1,5 @@
 ghost use Rattle.std.specs.Prelude.{◌≡◌};
-ghost use Rattle.host.specs.Hosts.{any, no_locks, unit_lock};
+ghost use Rattle.host.specs.Hosts.{any, unit_lock};
 ghost use Rattle.host.specs.Messages.{locks_after, with_unit_lock};
 
 use message::command::Command;
@@ -7,31 +7,19 @@ use message::command::Command;
 /// How many units can be locked: the controller has no lock.
 pub const UNITS: usize = 15;
 
-/// The locks that a host holds.
-#[derive(Clone, Copy)]
+/// The locks that a host holds: by default none.
+#[derive(Clone, Copy, Default)]
 pub struct Locks {
     pub device: bool,
     pub units: [bool; UNITS],
 }
 
 impl Locks {
-    /// No lock at all.
-    pub(super) fn none() -> Locks
-        ensures { result ≡ no_locks }
-    {
-        Locks {
-            device: false,
-            units: [false; UNITS],
-        }
-    }
-
     /// Whether the lock of that unit is held.
     pub fn has_unit(&self, unit: u8) -> bool
         ensures { result ≡ unit_lock self.now unit }
     {
-        self.units
-            .get(usize::from(unit))
-            .is_some_and(|held| *held)
+        self.units.get(usize::from(unit)).is_some_and(|held| *held)
     }
 
     /// Whether any unit's lock is held.

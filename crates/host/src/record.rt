@@ -47,7 +47,7 @@ impl Host {
         Host {
             parameters: Parameters::power_on(),
             interlocked: false,
-            locks: Locks::none(),
+            locks: Locks::default(),
             transaction: None,
             fault: None,
         }

@@ -8,9 +8,10 @@ use flex::unit_map::UnitMap;
 use message::command::Command;
 use message::message::Message;
 use message::parameters::WHOLE_UNIT;
+use store::fault::BLOCK_BYTES;
 
 /// The bytes of a block.
-const BLOCK: u32 = 256;
+const BLOCK: u32 = BLOCK_BYTES as u32;
 /// The most blocks of a segment.
 const SEGMENT: u32 = 32;
 
