@@ -11,8 +11,8 @@ use Rattle.store.specs.Blocks.{Block, Contents, sound, damaged, Whole, WholeOf, 
 use Rattle.store.proofs.Nth.{nth_set_same, nth_set_other}
 use Rattle.message.specs.declared.command.Command.{Command}
 use Rattle.host.specs.declared.fault.HostFault.{HostFault}
-use Rattle.host.specs.declared.transaction.Outcome.{Outcome}
-use Rattle.host.specs.declared.transaction.Outcome.TheVariants as outcomes
+use Rattle.host.specs.declared.transaction.Failure.{Failure}
+use Rattle.host.specs.declared.transaction.Failure.TheVariants as failures
 use Rattle.host.specs.declared.transaction.Transaction.{Transaction}
 use Rattle.transfer.specs.Segments.{span, zeros, met, read_bytes, put_next, put, write_by, moved_by_command, laid}
 use Rattle.transfer.specs.Transfers.{part, is_open, is_writable}
@@ -102,11 +102,9 @@ pub put_short : (b : ℕ) (os : List (Option Block)) (bytes : List ℕ) → leng
 put_short b [] bytes = omega arith
 put_short b (o ∷ os) bytes = put_next_short (write_at b o) _ _ (length os) (put_short (suc b) os _)
 
-write_short : (r : Outcome) (t : Transaction) (b : ℕ) (os : List (Option Block)) (buffer : List ℕ) → length (write_by r t b os buffer).put ≤ length os
-write_short outcomes.Fine t b os buffer = put_short b os buffer
-write_short outcomes.EndOfVolume t b os buffer = omega arith
-write_short outcomes.UnitFault t b os buffer = omega arith
-write_short (outcomes.Unrecoverable a) t b os buffer = omega arith
+write_short : (r : Option Failure) (t : Transaction) (b : ℕ) (os : List (Option Block)) (buffer : List ℕ) → length (write_by r t b os buffer).put ≤ length os
+write_short None t b os buffer = put_short b os buffer
+write_short (Some f) t b os buffer = omega arith
 
 pub moved_short : (k : Option Command) (t : Transaction) (b : ℕ) (os : List (Option Block)) (buffer : List ℕ) → length (moved_by_command k t b os buffer).put ≤ length os
 unfolding moved_by_command

@@ -8,35 +8,23 @@ use flex::status::Status;
 use flex::unit_map::UnitMap;
 use host::fault::HostFault;
 use host::progress::Progress;
-use host::transaction::{Outcome, Transaction};
+use host::transaction::{Failure, Transaction};
 use message::command::Command;
 use store::fault::BLOCK_BYTES;
 use store::store::Store;
 
 /// What there is to report once blocks were read: the first that could not be read, unless there is something already.
-fn after_reading(outcome: Outcome, fault: Option<HostFault>) -> Outcome
+fn after_reading(outcome: Option<Failure>, fault: Option<HostFault>) -> Option<Failure>
     ensures { result ≡ after_reading outcome fault }
 {
-    match outcome {
-        Outcome::Fine => match fault {
-            Some(met) => Outcome::Unrecoverable(met.address),
-            None => Outcome::Fine,
-        },
-        other => other,
-    }
+    outcome.or(fault.map(|met| Failure::Unrecoverable(met.address)))
 }
 
 /// What there is to report once blocks were written.
-fn after_writing(outcome: Outcome, fault: Option<HostFault>) -> Outcome
+fn after_writing(outcome: Option<Failure>, fault: Option<HostFault>) -> Option<Failure>
     ensures { result ≡ after_writing outcome fault }
 {
-    match outcome {
-        Outcome::Fine => match fault {
-            Some(_) => Outcome::UnitFault,
-            None => Outcome::Fine,
-        },
-        other => other,
-    }
+    outcome.or(fault.map(|_| Failure::UnitFault))
 }
 
 /// A read's segment: the blocks' bytes go into the front of the buffer.
@@ -105,7 +93,7 @@ fn write_segment<S: Store>(
     ensures after { S.Store.blocks store.new ≡ laid (S.Store.blocks store.old) block (write_by transaction.outcome transaction block (span (S.Store.blocks store.old) block (segment_of transaction)) buffer.now).put }
 {
     match transaction.outcome {
-        Outcome::Fine => {
+        None => {
             let (tried, fault) = write_blocks(
                 store,
                 transaction.unit,
@@ -116,13 +104,13 @@ fn write_segment<S: Store>(
             );
             Progress {
                 tried,
-                outcome: after_writing(Outcome::Fine, fault),
+                outcome: after_writing(None, fault),
                 fault,
             }
         }
-        outcome => Progress {
+        Some(_) => Progress {
             tried: 0,
-            outcome,
+            outcome: transaction.outcome,
             fault: None,
         },
     }
