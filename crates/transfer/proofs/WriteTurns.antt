@@ -1,15 +1,25 @@
 -- One turn of the loop that writes blocks, over plain lists.
-use Rattle.std.proofs.Common.{◌≡◌, ℕ, zero, suc, ◌+◌, ◌-◌, ◌*◌, ◌<◌, ◌≤◌, List, ◌∷◌, length, take, drop, set, Some, None, Ok, Err, Option, Result, sym, refl, ap, ◌∙◌, arith}
-use Rattle.std.specs.List.{slice_get}
+use Rattle.std.proofs.Common.{Bor, Iter, ◌≡◌, ℕ, zero, suc, ◌+◌, ◌-◌, ◌*◌, ◌/◌, ◌<◌, ◌≤◌, true, false, List, ◌∷◌, length, get_or, take, drop, set, is_some, Some, None, Ok, Err, Option, Result, sym, refl, ap, ◌∙◌, zero-add, arith}
+use Rattle.std.specs.Iterator.{Yields}
+use Rattle.std.specs.Iterator.Adapters.{zip_first, zip_second}
+use Rattle.std.specs.List.{slice_get, range_with_len, zip}
+use Rattle.std.specs.Slice.Iter.{iter_rest}
+use Rattle.std.specs.declared.iter.Zip.{Zip}
+use Rattle.std.specs.declared.ops.Range.{Range}
+use Rattle.std.proofs.iter.Yields.{fronts, nat_range_steps}
+use Rattle.std.proofs.lemmas.Iterator.{zips, YieldsList-from_slice, YieldsList-from_range, YieldsList-from_zip}
+use Rattle.std.proofs.lemmas.Iterator.Consumers.{YieldsList-turn, YieldsList-at}
+use Rattle.std.specs.Simd.{first_chunks}
 use Rattle.std.proofs.lemmas.List.{drop-drop, length-take, length-drop}
+use Rattle.std.proofs.lemmas.List.FromFn.{length-range_with_len, get_or-range_with_len}
+use Rattle.std.proofs.lemmas.Slice.Zip.{length-zip, get_or-zip}
 use Rattle.store.specs.declared.fault.StoreFault.{StoreFault}
 use Rattle.store.specs.declared.fault.Protection.{Protection}
 use Rattle.store.specs.declared.fault.Protection.TheVariants as protections
 use Rattle.store.specs.Blocks.{Block, open_block, write_of, write_at, written, written_of}
 use Rattle.store.proofs.Nth.{nth_set_other}
 use Rattle.host.specs.declared.fault.HostFault.{HostFault}
-use Rattle.host.specs.declared.fault.TransferFault.{TransferFault}
-use Rattle.transfer.specs.Segments.{span, converted, met, write_fault, put, put_next, write_tried, tried_next, laid}
+use Rattle.transfer.specs.Segments.{span, met_by, converted, met, write_fault, put, put_next, write_tried, tried_next, laid}
 
 span_after : (bs : List Block) (b : ℕ) (x : Block) (c n : ℕ) → b < c → span (set bs b x) c n ≡ span bs c n
 span_after bs b x c zero h = refl
@@ -77,14 +87,14 @@ module _ (bs : List Block) (b a u n : ℕ) (buffer part : List ℕ) (is : part �
         ap (λ r. laid bs b (put_next r (open_block (take 256 buffer)) (put (suc b) (span bs (suc b) n) (drop 256 buffer)))) bad
         ∙ sym (same_of (slice_get bs b) refl bad)
 
--- an answer as the transfer has it tells the store's
-pub fine_of : (r : Result (Unit {0}) StoreFault) → Ok tt ≡ converted r → r ≡ Ok tt
-fine_of (Ok tt) e = refl
-fine_of (Err f) e = absurd (let z : ◌≡◌ {A = ℕ} 0 1 = cc in omega arith)
+-- whether there is a fault tells the store's answer
+pub fine_of : (r : Result (Unit {0}) StoreFault) (u a : ℕ) → is_some (met_by (converted r) u a) ≡ false → r ≡ Ok tt
+fine_of (Ok tt) u a e = refl
+fine_of (Err f) u a e = cc
 
-pub bad_of : (r : Result (Unit {0}) StoreFault) (f : TransferFault) → Err f ≡ converted r → r ≡ Err f.store
-bad_of (Ok t) f e = absurd (let z : ◌≡◌ {A = ℕ} 0 1 = cc in omega arith)
-bad_of (Err g) f e = let h : f ≡ record { store = g } = cc in ap (λ (x : TransferFault). Err x.store) (sym h)
+pub bad_of : (r : Result (Unit {0}) StoreFault) (u a : ℕ) → is_some (met_by (converted r) u a) ≡ true → (f : StoreFault) × (r ≡ Err f)
+bad_of (Ok t) u a e = cc
+bad_of (Err f) u a e = (f, refl)
 
 -- the same at turn k of n, where the k blocks before are written
 module _ (bs : List Block) (b a u k n : ℕ) (buffer part : List ℕ) (more : k < n) (is : part ≡ take 256 (drop (256 * k) buffer)) (whole : length part ≡ 256) where
@@ -130,9 +140,37 @@ module _ (bs : List Block) (b a u k n : ℕ) (buffer part : List ℕ) (more : k 
     pub stop_after : after_of bs (b + k) (n - k) (drop (256 * k) buffer) ≡ written bs (b + k) part
     stop_after = ap (λ i. after_of bs (b + k) i (drop (256 * k) buffer)) left ∙ after_stops bs (b + k) (a + k) u (n - (k + 1)) (drop (256 * k) buffer) part is whole f bad
 
--- the part that is handed on to a write: as it is lent, and its length
-pub part_is : (k : ℕ) (buffer : List ℕ) → take (256 * k + 256 - 256 * k) (drop (256 * k) buffer) ≡ take 256 (drop (256 * k) buffer)
-part_is k buffer = let e : 256 * k + 256 - 256 * k ≡ 256 = omega arith in ap (λ i. take i (drop (256 * k) buffer)) e
+chunk_at : (m : ℕ) (s : List ℕ) (i : ℕ) (d : List ℕ) → i < m → get_or (first_chunks 256 m s) i d ≡ take 256 (drop (256 * i) s)
+chunk_at zero s i d l = absurd (omega arith)
+chunk_at (suc m) s zero d l = refl
+chunk_at (suc m) s (suc i) d l =
+    chunk_at m (drop 256 s) i d (omega arith) ∙ ap (take 256) (drop-drop (256 * i) 256 s ∙ ap (λ j. drop j s) (omega arith))
 
-pub part_whole : (k n : ℕ) (buffer : List ℕ) → k < n → 256 * n ≤ length buffer → length (take (256 * k + 256 - 256 * k) (drop (256 * k) buffer)) ≡ 256
-part_whole k n buffer h room = simp (length-take, length-drop) (omega arith)
+-- what turn i of the loop has: a block's place, and its part of the buffer
+pub record Turn (n i k : ℕ) (buffer part : List ℕ) : Type 0 where
+  pub within : i < n
+  pub place : k ≡ i
+  pub bytes : part ≡ take 256 (drop (256 * i) buffer)
+  pub whole : length part ≡ 256
+
+turn_at : (n i k : ℕ) (buffer part : List ℕ) (parts : List (List ℕ)) → 256 * n ≤ length buffer → parts ≡ first_chunks 256 (length buffer / 256) buffer → length parts ≡ length buffer / 256 →
+    (i < length (zip (range_with_len 0 n) parts)) × ((k, part) ≡ get_or (zip (range_with_len 0 n) parts) i (k, part)) → Turn n i k buffer part
+turn_at n i k buffer part parts room front long here =
+    let within : i < n = omega (arith, here.0, length-zip (range_with_len 0 n) parts, length-range_with_len 0 n) in
+    let few : i < length parts = omega arith in
+    let at = here.1 ∙ get_or-zip (range_with_len 0 n) parts i (k, part) (omega (arith, length-range_with_len 0 n)) few in
+    let bytes = ap (λ (p : ℕ × List ℕ). p.1) at ∙ ap (λ l. get_or l i part) front ∙ chunk_at (length buffer / 256) buffer i part (omega arith) in
+    record {
+      within = within;
+      place = ap (λ (p : ℕ × List ℕ). p.0) at ∙ get_or-range_with_len 0 n i k within ∙ zero-add i;
+      bytes = bytes;
+      whole = ap length bytes ∙ simp (length-take, length-drop) (omega arith);
+    }
+
+pub turn_of : (n : ℕ) (buffer : List ℕ) (parts : List (List ℕ)) → 256 * n ≤ length buffer → parts ≡ first_chunks 256 (length buffer / 256) buffer → length parts ≡ length buffer / 256 →
+    (s z : Zip (Range ℕ) (Iter (List ℕ))) → zip_first z ≡ record { start = 0; end = n } → iter_rest (zip_second z) ≡ parts → s ≡ z →
+    (yielded : List (ℕ × Bor (List ℕ))) (t u : Zip (Range ℕ) (Iter (List ℕ))) → Yields (zips nat_range_steps fronts) s yielded t →
+    (r : Option (ℕ × Bor (List ℕ))) (k : ℕ) (part : Bor (List ℕ)) → r ≡ Some (k, part) → zips nat_range_steps fronts t r u → Turn n (length yielded) k buffer part.now
+turn_of n buffer parts room front long s z first second same yielded t u y r k part is steps =
+    let road = YieldsList-at same (YieldsList-from_zip {s = z} (YieldsList-from_range 0 n n first (omega arith)) (YieldsList-from_slice parts second)) in
+    turn_at n (length yielded) k buffer part.now parts room front long (YieldsList-turn road yielded t y r u (k, part) is steps)
