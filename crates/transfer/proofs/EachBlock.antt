@@ -12,7 +12,6 @@ use Rattle.store.proofs.Nth.{nth_set_same, nth_set_other}
 use Rattle.message.specs.declared.command.Command.{Command}
 use Rattle.host.specs.declared.fault.HostFault.{HostFault}
 use Rattle.host.specs.declared.transaction.Failure.{Failure}
-use Rattle.host.specs.declared.transaction.Failure.TheVariants as failures
 use Rattle.host.specs.declared.transaction.Transaction.{Transaction}
 use Rattle.transfer.specs.Segments.{span, zeros, met, read_bytes, put_next, put, write_by, moved_by_command, laid}
 use Rattle.transfer.specs.Transfers.{part, is_open, is_writable}

@@ -9,7 +9,6 @@ use Rattle.message.specs.declared.command.Command.{Command}
 use Rattle.message.specs.declared.command.Command.TheVariants as commands
 use Rattle.host.specs.declared.fault.HostFault.{HostFault}
 use Rattle.host.specs.declared.transaction.Failure.{Failure}
-use Rattle.host.specs.declared.transaction.Failure.TheVariants as failures
 use Rattle.host.specs.declared.transaction.Transaction.{Transaction}
 use Rattle.transfer.specs.Segments.{span, read_fault, read_bytes, after_reading, write_fault, after_writing, put, laid, write_by, moved_by_command}
 use Rattle.transfer.specs.Transfers.{part, is_sound, is_readable, is_writable, Scanned, HandedOver, Written, Wrote, MovesBy, Moves}

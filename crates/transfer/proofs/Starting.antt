@@ -8,7 +8,6 @@ use Rattle.flex.specs.declared.unit.Unit.{Unit as DiscUnit}
 use Rattle.flex.specs.declared.unit_map.UnitMap.{UnitMap}
 use Rattle.flex.specs.Maps.{unit_at, block_in, block_at, Named}
 use Rattle.host.specs.declared.transaction.Failure.{Failure}
-use Rattle.host.specs.declared.transaction.Failure.TheVariants as failures
 use Rattle.host.specs.declared.transaction.Transaction.{Transaction}
 use Rattle.host.specs.Messages.{blocks_of}
 use Rattle.host.specs.Progress.{lies_in, segment_of}

@@ -82,7 +82,12 @@ impl Span {
     }
 
     /// Writes block k, and tells the fault.
-    fn write_one<S: Store>(&self, store: &mut S, k: u32, part: &[u8; BLOCK_BYTES]) -> Option<HostFault>
+    fn write_one<S: Store>(
+        &self,
+        store: &mut S,
+        k: u32,
+        part: &[u8; BLOCK_BYTES],
+    ) -> Option<HostFault>
         requires { k < segment_of self.now.transaction }
         ensures fault { result ≡ met_by (converted (write_at (self.now.first + k) (slice_get (S.Store.blocks store.old) (self.now.first + k)))) self.now.transaction.unit (self.now.transaction.at + k) }
         ensures after { S.Store.blocks store.new ≡ written (S.Store.blocks store.old) (self.now.first + k) part.now }

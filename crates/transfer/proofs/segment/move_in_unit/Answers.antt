@@ -1,8 +1,8 @@
-use Rattle.std.proofs.Common.{◌≡◌, ◌+◌, sym, ap, ◌∙◌, arith}
+use Rattle.std.proofs.Common.{◌≡◌, ◌+◌, sym, ap, ◌∙◌}
 use Rattle.flex.specs.Maps.{unit_at}
 use Rattle.host.specs.Progress.{segment_of}
 use Rattle.transfer.specs.Segments.{first_of, span, laid, untried, Moved, moved_by_command}
-use Rattle.transfer.proofs.Starting.{nothing_left, ends_before, not_tried}
+use Rattle.transfer.proofs.Starting.{nothing_left, not_tried}
 use Rattle.transfer.proofs.segment.move_in_unit.Goals as goal
 
 pub returns-in-None : goal.returns-in-None

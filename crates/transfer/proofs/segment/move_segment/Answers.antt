@@ -1,4 +1,4 @@
-use Rattle.std.proofs.Common.{Some, ap, rules}
+use Rattle.std.proofs.Common.{Some, ap}
 use Rattle.host.specs.declared.progress.Progress.{Progress}
 use Rattle.host.specs.Progress.{segment_of}
 use Rattle.transfer.specs.Segments.{start_of}
@@ -11,6 +11,6 @@ returns-clause-law g c =
     let m = c.move_in_unit in
     let store = c.args.store.now in
     moves_are
-        t (g.S.Store.blocks store) (start_of c.args.map.now (Some t)) (segment_of t) c.args.buffer.now (g.S.Store.lawful store).sized.whole
-        (g.S.Store.blocks m.new.store) m.new.buffer m.result.outcome
-        m.ensures.after m.ensures.buffer (ap (λ (p : Progress). p.outcome) m.ensures.progress)
+    t (g.S.Store.blocks store) (start_of c.args.map.now (Some t)) (segment_of t) c.args.buffer.now (g.S.Store.lawful store).sized.whole
+    (g.S.Store.blocks m.new.store) m.new.buffer m.result.outcome
+    m.ensures.after m.ensures.buffer (ap (λ (p : Progress). p.outcome) m.ensures.progress)
