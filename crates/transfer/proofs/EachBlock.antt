@@ -110,19 +110,19 @@ unfolding moved_by_command
 moved_short k t b os buffer = grind (arith, write_short)
 
 pub writes : (b : ℕ) (o : Option Block) → is_writable o ≡ true → write_at b o ≡ Ok tt
-writes b None e = absurd (let z : ◌≡◌ {A = ℕ} 0 1 = cc in omega arith)
+writes b None e = cc
 writes b (Some k) e = of k.protection e
   where
     of : (p : Protection) → is_open p ≡ true → write_of b p ≡ Ok tt
     of protections.Open e = refl
-    of protections.Protected e = absurd (let z : ◌≡◌ {A = ℕ} 0 1 = cc in omega arith)
+    of protections.Protected e = cc
 
 pub refuses : (b : ℕ) (o : Option Block) → is_writable o ≡ false → (f : StoreFault) × (write_at b o ≡ Err f)
 refuses b None e = (fault kinds.Beyond b, refl)
 refuses b (Some k) e = of k.protection e
   where
     of : (p : Protection) → is_open p ≡ false → (f : StoreFault) × (write_of b p ≡ Err f)
-    of protections.Open e = absurd (let z : ◌≡◌ {A = ℕ} 0 1 = cc in omega arith)
+    of protections.Open e = cc
     of protections.Protected e = (fault kinds.Protected b, refl)
 
 part_drop : (j : ℕ) (bytes : List ℕ) → part j (drop 256 bytes) ≡ part (suc j) bytes
@@ -160,7 +160,7 @@ module _ (bs : List Block) where
 -- What stands where something is laid.
 module _ {X : Type 0} where
   pub laid_at : (xs : List X) (p : ℕ) (ks : List X) (j : ℕ) (k : X) → (y : X) → slice_get xs (p + j) ≡ Some y → slice_get ks j ≡ Some k → slice_get (laid xs p ks) (p + j) ≡ Some k
-  laid_at xs p [] j k y there e = absurd (let z : ◌≡◌ {A = ℕ} 0 1 = cc in omega arith)
+  laid_at xs p [] j k y there e = cc
   laid_at xs p (x ∷ ks) zero k y there e =
       let here : slice_get xs p ≡ Some y = ap (slice_get xs) (sym (add-zero p)) ∙ there in
       ap (slice_get (laid (set xs p x) (suc p) ks)) (add-zero p)

@@ -18,23 +18,23 @@ use Rattle.transfer.proofs.Starting.{nothing_read}
 use Rattle.transfer.proofs.EachBlock.{Wholes, none_fails, first_fails, some_fails, bytes_long, part_read, writes, refuses, put_at, put_ends, put_short, laid_at}
 
 reads : (b : ℕ) (o : Option Block) → is_readable o ≡ true → read_at b o ≡ Ok tt
-reads b None e = absurd (let z : ◌≡◌ {A = ℕ} 0 1 = cc in omega arith)
+reads b None e = cc
 reads b (Some k) e = of k.contents e
   where
     of : (c : Contents) → is_sound c ≡ true → read_of b c ≡ Ok tt
     of (sound bytes) e = refl
-    of damaged e = absurd (let z : ◌≡◌ {A = ℕ} 0 1 = cc in omega arith)
+    of damaged e = cc
 
 unread : (b : ℕ) (o : Option Block) → is_readable o ≡ false → (f : StoreFault) × (read_at b o ≡ Err f)
 unread b None e = (fault kinds.Beyond b, refl)
 unread b (Some k) e = of k.contents e
   where
     of : (c : Contents) → is_sound c ≡ false → (f : StoreFault) × (read_of b c ≡ Err f)
-    of (sound bytes) e = absurd (let z : ◌≡◌ {A = ℕ} 0 1 = cc in omega arith)
+    of (sound bytes) e = cc
     of damaged e = (fault kinds.Damaged b, refl)
 
 there : (o : Option Block) → is_writable o ≡ true → (k : Block) × (o ≡ Some k)
-there None e = absurd (let z : ◌≡◌ {A = ℕ} 0 1 = cc in omega arith)
+there None e = cc
 there (Some k) e = (k, refl)
 
 module _ (t : Transaction) (bs : List Block) (b n : ℕ) where
@@ -83,7 +83,7 @@ module _ (t : Transaction) (bs : List Block) (b n : ℕ) where
         ((t.outcome ≡ None → ⊥) → (laid bs b m.put ≡ bs) × (m.progress.outcome ≡ t.outcome)) ×
         (m.buffer ≡ given)
     write_moves None i = ((λ f. (written, wrote f)), (λ n. absurd (n i)), refl)
-    write_moves (Some x) i = ((λ f. absurd (let z : ◌≡◌ {A = ℕ} 0 1 = cc in omega arith)), (λ n. (refl, refl)), refl)
+    write_moves (Some x) i = ((λ f. cc), (λ n. (refl, refl)), refl)
 
     pub moves : Wholes bs → (k : Option Command) → MovesBy k t b n bs (laid bs b (moved_by_command k t b (span bs b n) given).put) given (moved_by_command k t b (span bs b n) given).buffer (moved_by_command k t b (span bs b n) given).progress.outcome
     unfolding moved_by_command

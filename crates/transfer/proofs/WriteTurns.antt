@@ -40,12 +40,12 @@ after_of bs b n buffer = laid bs b (put b (span bs b n) buffer)
 -- the first block answers: accepted, the rest goes on from the store so changed; refused, nothing is changed
 module _ (bs : List Block) (b a u n : ℕ) (buffer part : List ℕ) (is : part ≡ take 256 buffer) (whole : length part ≡ 256) where
   set_of : (o : Option Block) → slice_get bs b ≡ o → write_at b o ≡ Ok tt → written bs b part ≡ set bs b (open_block part)
-  set_of None e r = absurd (let z : ◌≡◌ {A = ℕ} 0 1 = cc in omega arith)
+  set_of None e r = cc
   set_of (Some k) e r = rw (whole, e) (of k.protection r)
     where
       of : (p : Protection) → write_of b p ≡ Ok tt → written_of bs b part p ≡ set bs b (open_block part)
       of protections.Open f = refl
-      of protections.Protected f = absurd (let z : ◌≡◌ {A = ℕ} 0 1 = cc in omega arith)
+      of protections.Protected f = cc
 
   module _ (fine : write_at b (slice_get bs b) ≡ Ok tt) where
     changed : written bs b part ≡ set bs b (open_block part)
@@ -73,7 +73,7 @@ module _ (bs : List Block) (b a u n : ℕ) (buffer part : List ℕ) (is : part �
     same_of (Some k) e r = rw (whole, e) (of k.protection r)
       where
         of : (p : Protection) → write_of b p ≡ Err f → written_of bs b part p ≡ bs
-        of protections.Open g = absurd (let z : ◌≡◌ {A = ℕ} 0 1 = cc in omega arith)
+        of protections.Open g = cc
         of protections.Protected g = refl
 
     pub tried_stops : tried_of bs b (suc n) ≡ 1

@@ -2,7 +2,7 @@ ghost use Rattle.std.specs.Prelude.{◌≡◌, ◌+◌, ◌*◌, ◌^◌, ◌<�
 ghost use Rattle.std.specs.List.{slice_get};
 ghost use Rattle.store.specs.Blocks.{read_at, buffer_at, write_at, written};
 ghost use Rattle.host.specs.Progress.{segment_of};
-ghost use Rattle.transfer.specs.Segments.{span, zeros, met_by, converted, read_fault, read_bytes, write_fault, write_tried, put, laid};
+ghost use Rattle.transfer.specs.Segments.{zeros, met_by, converted, read_fault, read_bytes, write_fault, write_tried, put, laid};
 
 use host::fault::{HostFault, TransferFault};
 use host::transaction::Transaction;
@@ -19,6 +19,8 @@ pub(super) struct Span {
 }
 
 impl Span {
+    ghost use Rattle.transfer.specs.Spans.{in_span};
+
     /// How many blocks it has.
     fn count(&self) -> u32
         ensures { result ≡ segment_of self.now.transaction }
@@ -54,8 +56,8 @@ impl Span {
     /// Reads the blocks into the front of the buffer, and tells the first fault.
     pub(super) fn read<S: Store>(&self, store: &mut S, buffer: &mut [u8]) -> Option<HostFault>
         requires room { 256 * segment_of self.now.transaction ≤ length buffer.old }
-        ensures fault { result ≡ read_fault self.now.transaction.unit self.now.first self.now.transaction.at (span (S.Store.blocks store.old) self.now.first (segment_of self.now.transaction)) }
-        ensures buffer { buffer.new ≡ read_bytes (span (S.Store.blocks store.old) self.now.first (segment_of self.now.transaction)) ++ drop (256 * segment_of self.now.transaction) buffer.old }
+        ensures fault { result ≡ read_fault self.now.transaction.unit self.now.first self.now.transaction.at (in_span self.now (S.Store.blocks store.old)) }
+        ensures buffer { buffer.new ≡ read_bytes (in_span self.now (S.Store.blocks store.old)) ++ drop (256 * segment_of self.now.transaction) buffer.old }
         ensures same { S.Store.blocks store.new ≡ S.Store.blocks store.old }
     {
         let mut fault = None;
@@ -70,7 +72,7 @@ impl Span {
 
     /// Reads the blocks to see whether they can be read, and tells the first fault.
     pub(super) fn verify<S: Store>(&self, store: &mut S) -> Option<HostFault>
-        ensures fault { result ≡ read_fault self.now.transaction.unit self.now.first self.now.transaction.at (span (S.Store.blocks store.old) self.now.first (segment_of self.now.transaction)) }
+        ensures fault { result ≡ read_fault self.now.transaction.unit self.now.first self.now.transaction.at (in_span self.now (S.Store.blocks store.old)) }
         ensures same { S.Store.blocks store.new ≡ S.Store.blocks store.old }
     {
         let mut scratch = [0u8; BLOCK_BYTES];
@@ -99,9 +101,9 @@ impl Span {
     /// Writes the blocks from the front of the buffer until one refuses, and tells how many were tried and the fault.
     pub(super) fn write<S: Store>(&self, store: &mut S, buffer: &[u8]) -> (u32, Option<HostFault>)
         requires room { 256 * segment_of self.now.transaction ≤ length buffer.now }
-        ensures tried { result.0 ≡ write_tried self.now.first (span (S.Store.blocks store.old) self.now.first (segment_of self.now.transaction)) }
-        ensures fault { result.1 ≡ write_fault self.now.transaction.unit self.now.first self.now.transaction.at (span (S.Store.blocks store.old) self.now.first (segment_of self.now.transaction)) }
-        ensures after { S.Store.blocks store.new ≡ laid (S.Store.blocks store.old) self.now.first (put self.now.first (span (S.Store.blocks store.old) self.now.first (segment_of self.now.transaction)) buffer.now) }
+        ensures tried { result.0 ≡ write_tried self.now.first (in_span self.now (S.Store.blocks store.old)) }
+        ensures fault { result.1 ≡ write_fault self.now.transaction.unit self.now.first self.now.transaction.at (in_span self.now (S.Store.blocks store.old)) }
+        ensures after { S.Store.blocks store.new ≡ laid (S.Store.blocks store.old) self.now.first (put self.now.first (in_span self.now (S.Store.blocks store.old)) buffer.now) }
     {
         let (parts, _) = buffer.as_chunks::<BLOCK_BYTES>();
         for (k, part) in (0..self.count()).zip(parts) {

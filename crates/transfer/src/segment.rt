@@ -1,7 +1,8 @@
 ghost use Rattle.std.specs.Prelude.{◌≡◌, ◌*◌, ◌≤◌, true, length, Some, None};
 ghost use Rattle.std.specs.Result.{result_err};
 ghost use Rattle.host.specs.Progress.{lies_in, segment_of};
-ghost use Rattle.transfer.specs.Segments.{start_of, span, laid, after_reading, after_writing, write_by, moved_by_command, moved_over, holds_segment, refusal_of, progress_by, buffer_by, blocks_by};
+ghost use Rattle.transfer.specs.Segments.{start_of, laid, after_reading, after_writing, write_by, moved_by_command, moved_over, holds_segment, refusal_of, progress_by, buffer_by, blocks_by};
+ghost use Rattle.transfer.specs.Spans.{in_span};
 ghost use Rattle.transfer.specs.Transfers.{SegmentLaw};
 
 use super::blocks::Span;
@@ -53,8 +54,8 @@ fn not_tried(transaction: Transaction) -> Progress
 /// A write's segment: nothing is tried once there is something to report.
 fn write_segment<S: Store>(store: &mut S, blocks: Span, buffer: &[u8]) -> Progress
     requires { 256 * segment_of blocks.transaction ≤ length buffer.now }
-    ensures progress { result ≡ (write_by blocks.transaction.outcome blocks.transaction blocks.first (span (S.Store.blocks store.old) blocks.first (segment_of blocks.transaction)) buffer.now).progress }
-    ensures after { S.Store.blocks store.new ≡ laid (S.Store.blocks store.old) blocks.first (write_by blocks.transaction.outcome blocks.transaction blocks.first (span (S.Store.blocks store.old) blocks.first (segment_of blocks.transaction)) buffer.now).put }
+    ensures progress { result ≡ (write_by blocks.transaction.outcome blocks.transaction blocks.first (in_span blocks (S.Store.blocks store.old)) buffer.now).progress }
+    ensures after { S.Store.blocks store.new ≡ laid (S.Store.blocks store.old) blocks.first (write_by blocks.transaction.outcome blocks.transaction blocks.first (in_span blocks (S.Store.blocks store.old)) buffer.now).put }
 {
     if blocks.transaction.outcome.is_some() {
         return not_tried(blocks.transaction);
@@ -71,9 +72,9 @@ fn write_segment<S: Store>(store: &mut S, blocks: Span, buffer: &[u8]) -> Progre
 #[tactic(auto, unfolding(crate::specs::Segments::moved_by_command), using(crate::proofs::Spans::length_span))]
 fn move_blocks<S: Store>(store: &mut S, blocks: Span, buffer: &mut [u8]) -> Progress
     requires { holds_segment blocks.transaction buffer.old ≡ true }
-    ensures progress { result ≡ (moved_by_command blocks.transaction.command blocks.transaction blocks.first (span (S.Store.blocks store.old) blocks.first (segment_of blocks.transaction)) buffer.old).progress }
-    ensures buffer { buffer.new ≡ (moved_by_command blocks.transaction.command blocks.transaction blocks.first (span (S.Store.blocks store.old) blocks.first (segment_of blocks.transaction)) buffer.old).buffer }
-    ensures after { S.Store.blocks store.new ≡ laid (S.Store.blocks store.old) blocks.first (moved_by_command blocks.transaction.command blocks.transaction blocks.first (span (S.Store.blocks store.old) blocks.first (segment_of blocks.transaction)) buffer.old).put }
+    ensures progress { result ≡ (moved_by_command blocks.transaction.command blocks.transaction blocks.first (in_span blocks (S.Store.blocks store.old)) buffer.old).progress }
+    ensures buffer { buffer.new ≡ (moved_by_command blocks.transaction.command blocks.transaction blocks.first (in_span blocks (S.Store.blocks store.old)) buffer.old).buffer }
+    ensures after { S.Store.blocks store.new ≡ laid (S.Store.blocks store.old) blocks.first (moved_by_command blocks.transaction.command blocks.transaction blocks.first (in_span blocks (S.Store.blocks store.old)) buffer.old).put }
 {
     let transaction = blocks.transaction;
     match transaction.command {
