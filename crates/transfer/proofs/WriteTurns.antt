@@ -1,5 +1,6 @@
 -- One turn of the loop that writes blocks, over plain lists.
-use Rattle.std.proofs.Common.{Bor, Iter, ◌≡◌, ℕ, zero, suc, ◌+◌, ◌-◌, ◌*◌, ◌/◌, ◌<◌, ◌≤◌, true, false, List, ◌∷◌, length, get_or, take, drop, set, is_some, Some, None, Ok, Err, Option, Result, sym, refl, ap, ◌∙◌, zero-add, arith}
+use Rattle.std.proofs.Common.{Bor, Iter, ◌≡◌, ℕ, zero, suc, ◌+◌, ◌-◌, ◌*◌, ◌/◌, ◌<◌, ◌≤◌, true, false, List, ◌∷◌, length, get_or, take, drop, set, is_some, Some, None, Ok, Err, Option, Result, sym, refl, ap, ◌∙◌, ap₂, add-zero, zero-add, arith}
+use native.Mathlib.Nat.{sub-zero}
 use Rattle.std.specs.Iterator.{Yields}
 use Rattle.std.specs.Iterator.Adapters.{zip_first, zip_second}
 use Rattle.std.specs.List.{slice_get, range_with_len, zip}
@@ -54,13 +55,13 @@ module _ (bs : List Block) (b a u n : ℕ) (buffer part : List ℕ) (is : part �
     rest : span (written bs b part) (suc b) n ≡ span bs (suc b) n
     rest = ap (λ l. span l (suc b) n) changed ∙ span_after bs b (open_block part) (suc b) n (omega arith)
 
-    pub tried_on : tried_of bs b (suc n) ≡ suc (tried_of (written bs b part) (suc b) n)
+    tried_on : tried_of bs b (suc n) ≡ suc (tried_of (written bs b part) (suc b) n)
     tried_on = ap (λ r. tried_next r (write_tried (suc b) (span bs (suc b) n))) fine ∙ ap (λ l. suc (write_tried (suc b) l)) (sym rest)
 
-    pub fault_on : fault_of u bs b a (suc n) ≡ fault_of u (written bs b part) (suc b) (suc a) n
+    fault_on : fault_of u bs b a (suc n) ≡ fault_of u (written bs b part) (suc b) (suc a) n
     fault_on = ap (λ r. met r u a (write_fault u (suc b) (suc a) (span bs (suc b) n))) fine ∙ ap (write_fault u (suc b) (suc a)) (sym rest)
 
-    pub after_on : after_of bs b (suc n) buffer ≡ after_of (written bs b part) (suc b) n (drop 256 buffer)
+    after_on : after_of bs b (suc n) buffer ≡ after_of (written bs b part) (suc b) n (drop 256 buffer)
     after_on =
         ap (λ r. laid bs b (put_next r (open_block (take 256 buffer)) (put (suc b) (span bs (suc b) n) (drop 256 buffer)))) fine
         ∙ ap (λ p. laid (set bs b (open_block p)) (suc b) (put (suc b) (span bs (suc b) n) (drop 256 buffer))) (sym is)
@@ -76,82 +77,38 @@ module _ (bs : List Block) (b a u n : ℕ) (buffer part : List ℕ) (is : part �
         of protections.Open g = cc
         of protections.Protected g = refl
 
-    pub tried_stops : tried_of bs b (suc n) ≡ 1
+    tried_stops : tried_of bs b (suc n) ≡ 1
     tried_stops = ap (λ r. tried_next r (write_tried (suc b) (span bs (suc b) n))) bad
 
-    pub fault_stops : fault_of u bs b a (suc n) ≡ Some (record { fault = record { store = f }; unit = u; address = a })
+    fault_stops : fault_of u bs b a (suc n) ≡ Some (record { fault = record { store = f }; unit = u; address = a })
     fault_stops = ap (λ r. met r u a (write_fault u (suc b) (suc a) (span bs (suc b) n))) bad
 
-    pub after_stops : after_of bs b (suc n) buffer ≡ written bs b part
+    after_stops : after_of bs b (suc n) buffer ≡ written bs b part
     after_stops =
         ap (λ r. laid bs b (put_next r (open_block (take 256 buffer)) (put (suc b) (span bs (suc b) n) (drop 256 buffer)))) bad
         ∙ sym (same_of (slice_get bs b) refl bad)
 
 -- whether there is a fault tells the store's answer
-pub fine_of : (r : Result (Unit {0}) StoreFault) (u a : ℕ) → is_some (met_by (converted r) u a) ≡ false → r ≡ Ok tt
+fine_of : (r : Result (Unit {0}) StoreFault) (u a : ℕ) → is_some (met_by (converted r) u a) ≡ false → r ≡ Ok tt
 fine_of (Ok tt) u a e = refl
 fine_of (Err f) u a e = cc
 
-pub bad_of : (r : Result (Unit {0}) StoreFault) (u a : ℕ) → is_some (met_by (converted r) u a) ≡ true → (f : StoreFault) × (r ≡ Err f)
+bad_of : (r : Result (Unit {0}) StoreFault) (u a : ℕ) → is_some (met_by (converted r) u a) ≡ true → (f : StoreFault) × (r ≡ Err f)
 bad_of (Ok t) u a e = cc
 bad_of (Err f) u a e = (f, refl)
 
--- the same at turn k of n, where the k blocks before are written
-module _ (bs : List Block) (b a u k n : ℕ) (buffer part : List ℕ) (more : k < n) (is : part ≡ take 256 (drop (256 * k) buffer)) (whole : length part ≡ 256) where
-  left : n - k ≡ suc (n - (k + 1))
-  left = omega arith
-
-  on : suc (b + k) ≡ b + (k + 1)
-  on = omega arith
-
-  further : drop 256 (drop (256 * k) buffer) ≡ drop (256 * (k + 1)) buffer
-  further = drop-drop 256 (256 * k) buffer ∙ ap (λ i. drop i buffer) (omega arith)
-
-  module _ (fine : write_at (b + k) (slice_get bs (b + k)) ≡ Ok tt) where
-    pub turn_tried : k + tried_of bs (b + k) (n - k) ≡ k + 1 + tried_of (written bs (b + k) part) (b + (k + 1)) (n - (k + 1))
-    turn_tried =
-        ap (λ i. k + tried_of bs (b + k) i) left
-        ∙ ap (λ x. k + x) (tried_on bs (b + k) (a + k) u (n - (k + 1)) (drop (256 * k) buffer) part is whole fine)
-        ∙ ap (λ j. k + suc (tried_of (written bs (b + k) part) j (n - (k + 1)))) on
-        ∙ omega arith
-
-    pub turn_fault : fault_of u bs (b + k) (a + k) (n - k) ≡ fault_of u (written bs (b + k) part) (b + (k + 1)) (a + (k + 1)) (n - (k + 1))
-    turn_fault =
-        let up : suc (a + k) ≡ a + (k + 1) = omega arith in
-        ap (fault_of u bs (b + k) (a + k)) left
-        ∙ fault_on bs (b + k) (a + k) u (n - (k + 1)) (drop (256 * k) buffer) part is whole fine
-        ∙ ap (λ j. fault_of u (written bs (b + k) part) j (suc (a + k)) (n - (k + 1))) on
-        ∙ ap (λ j. fault_of u (written bs (b + k) part) (b + (k + 1)) j (n - (k + 1))) up
-
-    pub turn_after : after_of bs (b + k) (n - k) (drop (256 * k) buffer) ≡ after_of (written bs (b + k) part) (b + (k + 1)) (n - (k + 1)) (drop (256 * (k + 1)) buffer)
-    turn_after =
-        ap (λ i. after_of bs (b + k) i (drop (256 * k) buffer)) left
-        ∙ after_on bs (b + k) (a + k) u (n - (k + 1)) (drop (256 * k) buffer) part is whole fine
-        ∙ ap (λ j. after_of (written bs (b + k) part) j (n - (k + 1)) (drop 256 (drop (256 * k) buffer))) on
-        ∙ ap (after_of (written bs (b + k) part) (b + (k + 1)) (n - (k + 1))) further
-
-  module _ (f : StoreFault) (bad : write_at (b + k) (slice_get bs (b + k)) ≡ Err f) where
-    pub stop_tried : k + tried_of bs (b + k) (n - k) ≡ k + 1
-    stop_tried = ap (λ i. k + tried_of bs (b + k) i) left ∙ ap (λ x. k + x) (tried_stops bs (b + k) (a + k) u (n - (k + 1)) (drop (256 * k) buffer) part is whole f bad)
-
-    pub stop_fault : fault_of u bs (b + k) (a + k) (n - k) ≡ Some (record { fault = record { store = f }; unit = u; address = a + k })
-    stop_fault = ap (fault_of u bs (b + k) (a + k)) left ∙ fault_stops bs (b + k) (a + k) u (n - (k + 1)) (drop (256 * k) buffer) part is whole f bad
-
-    pub stop_after : after_of bs (b + k) (n - k) (drop (256 * k) buffer) ≡ written bs (b + k) part
-    stop_after = ap (λ i. after_of bs (b + k) i (drop (256 * k) buffer)) left ∙ after_stops bs (b + k) (a + k) u (n - (k + 1)) (drop (256 * k) buffer) part is whole f bad
+-- What turn i of the loop has: a block's place k, and its part of the buffer.
+pub record Turn (n i k : ℕ) (buffer part : List ℕ) : Type 0 where
+  pub within : i < n
+  pub place : k ≡ i
+  pub bytes : part ≡ take 256 (drop (256 * i) buffer)
+  pub whole : length part ≡ 256
 
 chunk_at : (m : ℕ) (s : List ℕ) (i : ℕ) (d : List ℕ) → i < m → get_or (first_chunks 256 m s) i d ≡ take 256 (drop (256 * i) s)
 chunk_at zero s i d l = absurd (omega arith)
 chunk_at (suc m) s zero d l = refl
 chunk_at (suc m) s (suc i) d l =
     chunk_at m (drop 256 s) i d (omega arith) ∙ ap (take 256) (drop-drop (256 * i) 256 s ∙ ap (λ j. drop j s) (omega arith))
-
--- what turn i of the loop has: a block's place, and its part of the buffer
-pub record Turn (n i k : ℕ) (buffer part : List ℕ) : Type 0 where
-  pub within : i < n
-  pub place : k ≡ i
-  pub bytes : part ≡ take 256 (drop (256 * i) buffer)
-  pub whole : length part ≡ 256
 
 turn_at : (n i k : ℕ) (buffer part : List ℕ) (parts : List (List ℕ)) → 256 * n ≤ length buffer → parts ≡ first_chunks 256 (length buffer / 256) buffer → length parts ≡ length buffer / 256 →
     (i < length (zip (range_with_len 0 n) parts)) × ((k, part) ≡ get_or (zip (range_with_len 0 n) parts) i (k, part)) → Turn n i k buffer part
@@ -168,9 +125,78 @@ turn_at n i k buffer part parts room front long here =
     }
 
 pub turn_of : (n : ℕ) (buffer : List ℕ) (parts : List (List ℕ)) → 256 * n ≤ length buffer → parts ≡ first_chunks 256 (length buffer / 256) buffer → length parts ≡ length buffer / 256 →
-    (s z : Zip (Range ℕ) (Iter (List ℕ))) → zip_first z ≡ record { start = 0; end = n } → iter_rest (zip_second z) ≡ parts → s ≡ z →
+    (s z : Zip (Range ℕ) (Iter (List ℕ))) → s ≡ z → zip_first z ≡ record { start = 0; end = n } → iter_rest (zip_second z) ≡ parts →
     (yielded : List (ℕ × Bor (List ℕ))) (t u : Zip (Range ℕ) (Iter (List ℕ))) → Yields (zips nat_range_steps fronts) s yielded t →
     (r : Option (ℕ × Bor (List ℕ))) (k : ℕ) (part : Bor (List ℕ)) → r ≡ Some (k, part) → zips nat_range_steps fronts t r u → Turn n (length yielded) k buffer part.now
-turn_of n buffer parts room front long s z first second same yielded t u y r k part is steps =
+turn_of n buffer parts room front long s z same first second yielded t u y r k part is steps =
     let road = YieldsList-at same (YieldsList-from_zip {s = z} (YieldsList-from_range 0 n n first (omega arith)) (YieldsList-from_slice parts second)) in
     turn_at n (length yielded) k buffer part.now parts room front long (YieldsList-turn road yielded t y r u (k, part) is steps)
+
+-- After k of n blocks: what is left to write gives what the whole gives.
+pub record WrittenSoFar (bs now : List Block) (b a u k n : ℕ) (buffer : List ℕ) : Type 0 where
+  pub tried : k + tried_of now (b + k) (n - k) ≡ tried_of bs b n
+  pub fault : fault_of u now (b + k) (a + k) (n - k) ≡ fault_of u bs b a n
+  pub after : after_of now (b + k) (n - k) (drop (256 * k) buffer) ≡ after_of bs b n buffer
+
+pub none_written : (bs : List Block) (b a u n : ℕ) (buffer : List ℕ) → WrittenSoFar bs bs b a u 0 n buffer
+none_written bs b a u n buffer = record {
+  tried = simp (add-zero, zero-add, sub-zero);
+  fault = simp (add-zero, sub-zero);
+  after = simp (add-zero, sub-zero);
+}
+
+-- The fault and the store that one more block leaves.
+module _ (bs now now' : List Block) (b a u k n p : ℕ) (buffer part : List ℕ) (met : Option HostFault) (before : WrittenSoFar bs now b a u k n buffer) (turn : Turn n k p buffer part)
+    (answers : met ≡ met_by (converted (write_at (b + p) (slice_get now (b + p)))) u (a + p)) (writes : now' ≡ written now (b + p) part) where
+  left : n - k ≡ suc (n - (k + 1))
+  left = let h = turn.within in omega arith
+
+  answers_here : met ≡ met_by (converted (write_at (b + k) (slice_get now (b + k)))) u (a + k)
+  answers_here = answers ∙ ap (λ i. met_by (converted (write_at (b + i) (slice_get now (b + i)))) u (a + i)) turn.place
+
+  writes_here : now' ≡ written now (b + k) part
+  writes_here = writes ∙ ap (λ i. written now (b + i) part) turn.place
+
+  abbrev ahead : List ℕ
+  ahead = drop (256 * k) buffer
+
+  pub one_more : is_some met ≡ false → WrittenSoFar bs now' b a u (k + 1) n buffer
+  one_more none =
+      let fine = fine_of (write_at (b + k) (slice_get now (b + k))) u (a + k) (ap is_some (sym answers_here) ∙ none) in
+      let on : suc (b + k) ≡ b + (k + 1) = omega arith in
+      let up : suc (a + k) ≡ a + (k + 1) = omega arith in
+      let m = n - (k + 1) in
+      record {
+        tried =
+            ap (λ l. k + 1 + tried_of l (b + (k + 1)) m) writes_here
+            ∙ ap (λ j. k + 1 + tried_of (written now (b + k) part) j m) (sym on)
+            ∙ omega (arith, tried_on now (b + k) (a + k) u m ahead part turn.bytes turn.whole fine, ap (tried_of now (b + k)) left, before.tried);
+        fault =
+            ap (λ l. fault_of u l (b + (k + 1)) (a + (k + 1)) m) writes_here
+            ∙ ap₂ (λ i j. fault_of u (written now (b + k) part) i j m) (sym on) (sym up)
+            ∙ sym (fault_on now (b + k) (a + k) u m ahead part turn.bytes turn.whole fine)
+            ∙ ap (fault_of u now (b + k) (a + k)) (sym left)
+            ∙ before.fault;
+        after =
+            ap (λ l. after_of l (b + (k + 1)) m (drop (256 * (k + 1)) buffer)) writes_here
+            ∙ ap₂ (λ j l. after_of (written now (b + k) part) j m l) (sym on) (sym (drop-drop 256 (256 * k) buffer ∙ ap (λ i. drop i buffer) (omega arith)))
+            ∙ sym (after_on now (b + k) (a + k) u m ahead part turn.bytes turn.whole fine)
+            ∙ ap (λ i. after_of now (b + k) i ahead) (sym left)
+            ∙ before.after;
+      }
+
+  pub stopped_there : is_some met ≡ true → (p + 1 ≡ tried_of bs b n) × (met ≡ fault_of u bs b a n) × (now' ≡ after_of bs b n buffer)
+  stopped_there some =
+      let bad = bad_of (write_at (b + k) (slice_get now (b + k))) u (a + k) (ap is_some (sym answers_here) ∙ some) in
+      let m = n - (k + 1) in (
+        omega (arith, turn.place, tried_stops now (b + k) (a + k) u m ahead part turn.bytes turn.whole bad.0 bad.1, ap (tried_of now (b + k)) left, before.tried),
+        answers_here
+            ∙ ap (λ r. met_by (converted r) u (a + k)) bad.1
+            ∙ sym (fault_stops now (b + k) (a + k) u m ahead part turn.bytes turn.whole bad.0 bad.1)
+            ∙ ap (fault_of u now (b + k) (a + k)) (sym left)
+            ∙ before.fault,
+        writes_here
+            ∙ sym (after_stops now (b + k) (a + k) u m ahead part turn.bytes turn.whole bad.0 bad.1)
+            ∙ ap (λ i. after_of now (b + k) i ahead) (sym left)
+            ∙ before.after,
+      )
