@@ -71,6 +71,7 @@ impl Span {
     }
 
     /// Reads the blocks to see whether they can be read, and tells the first fault.
+    #[tactic(auto, using(crate::proofs::ReadTurns::fault_more))]
     pub(super) fn verify<S: Store>(&self, store: &mut S) -> Option<HostFault>
         ensures fault { result ≡ read_fault self.now.transaction.unit self.now.first self.now.transaction.at (in_span self.now (S.Store.blocks store.old)) }
         ensures same { S.Store.blocks store.new ≡ S.Store.blocks store.old }

@@ -22,8 +22,3 @@ loop-k-preserved g c =
       read_more bs x.first k ys here whole long c.loop-k.buffer c.args.buffer.now c.loop-k.invariant.2,
       cc,
     )
-
-pub returns : goal.returns
-returns g c =
-    let all : c.loop-k.k ≡ segment_of c.args.self.now.transaction = omega arith in
-    record { fault = cc; buffer = cc; same = c.loop-k.invariant.0 }
