@@ -2,12 +2,10 @@ ghost use Rattle.std.specs.Prelude.{◌≡◌};
 ghost use Rattle.host.specs.Hosts.{any, unit_lock};
 ghost use Rattle.host.specs.Messages.{locks_after, with_unit_lock};
 
+use flex::unit_map::UNITS;
 use message::command::Command;
 
-/// How many units can be locked: the controller has no lock.
-pub const UNITS: usize = 15;
-
-/// The locks that a host holds: by default none.
+/// The locks that a host holds, by default none: the device's, and the units'. The controller has no lock.
 #[derive(Clone, Copy, Default)]
 pub struct Locks {
     pub device: bool,

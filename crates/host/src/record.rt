@@ -9,13 +9,10 @@ use super::progress::Progress;
 use super::transaction::{Phase, Transaction};
 use super::want::Want;
 use flex::status::Status;
-use flex::unit_map::UnitMap;
+use flex::unit_map::{CONTROLLER, UnitMap};
 use message::decode::decode;
 use message::message::Message;
 use message::parameters::Parameters;
-
-/// The number of the controller, which no command on a unit may have in effect.
-const CONTROLLER: u8 = 15;
 
 /// All that the device keeps of one host, but for its mail.
 #[derive(Clone, Copy)]
