@@ -7,7 +7,9 @@ use super::unit::Unit;
 mod methods;
 
 /// The most units of a map.
-pub(super) const UNITS: usize = 15;
+pub const UNITS: usize = 15;
+/// The number of the controller, which messages may address as a unit with no place.
+pub const CONTROLLER: u8 = 15;
 
 /// The units of a device, from number 0 on, and the end that they keep to.
 /// A value exists only where no block is in two units and none is past the end.

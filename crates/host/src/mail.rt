@@ -66,7 +66,7 @@ impl Mail {
 pub fn settle(hosts: &[Host], mail: &mut [Mail])
     ensures { mail.new ≡ settle hosts.now mail.old }
 {
-    for place in 0..mail.len() {
-        mail[place] = mail[place].settled(hosts, place);
+    for (place, mail) in mail.iter_mut().enumerate() {
+        *mail = mail.settled(hosts, place);
     }
 }

@@ -7,8 +7,7 @@ use Rattle.message.specs.declared.command.Command.TheVariants as commands
 use Rattle.flex.specs.declared.unit.Unit.{Unit as DiscUnit}
 use Rattle.flex.specs.declared.unit_map.UnitMap.{UnitMap}
 use Rattle.flex.specs.Maps.{unit_at, block_in, block_at, Named}
-use Rattle.host.specs.declared.transaction.Outcome.{Outcome}
-use Rattle.host.specs.declared.transaction.Outcome.TheVariants as outcomes
+use Rattle.host.specs.declared.transaction.Failure.{Failure}
 use Rattle.host.specs.declared.transaction.Transaction.{Transaction}
 use Rattle.host.specs.Messages.{blocks_of}
 use Rattle.host.specs.Progress.{lies_in, segment_of}
@@ -42,24 +41,20 @@ ends_before map named t b l e =
     let before = named.before_end t.unit (t.at + n) (first_in o + (t.at + n)) (there (t.at + n) o last) in
     (omega arith, omega arith)
 
-pub nothing_read : (r : Outcome) → after_reading r None ≡ r
-nothing_read outcomes.Fine = refl
-nothing_read outcomes.EndOfVolume = refl
-nothing_read outcomes.UnitFault = refl
-nothing_read (outcomes.Unrecoverable a) = refl
+pub nothing_read : (r : Option Failure) → after_reading r None ≡ r
+nothing_read None = refl
+nothing_read (Some f) = refl
 
-nothing_written : (r : Outcome) (t : Transaction) → t.outcome ≡ r → (b : ℕ) (buffer : List ℕ) → write_by r t b [] buffer ≡ untried t buffer
-nothing_written outcomes.Fine t e b buffer = rw e refl
-nothing_written outcomes.EndOfVolume t e b buffer = refl
-nothing_written outcomes.UnitFault t e b buffer = refl
-nothing_written (outcomes.Unrecoverable a) t e b buffer = refl
+nothing_written : (r : Option Failure) (t : Transaction) → t.outcome ≡ r → (b : ℕ) (buffer : List ℕ) → write_by r t b [] buffer ≡ untried t buffer
+nothing_written None t e b buffer = rw e refl
+nothing_written (Some f) t e b buffer = refl
 
 pub not_tried : (k : Option Command) (t : Transaction) (b : ℕ) (buffer : List ℕ) → moved_by_command k t b [] buffer ≡ untried t buffer
 unfolding moved_by_command
 not_tried None t b buffer = refl
-not_tried (Some commands.Read) t b buffer = ap {B = Moved} (λ (r : Outcome). record { buffer = buffer; put = []; progress = record { tried = 0; outcome = r; fault = None } }) (nothing_read t.outcome)
+not_tried (Some commands.Read) t b buffer = ap {B = Moved} (λ (r : Option Failure). record { buffer = buffer; put = []; progress = record { tried = 0; outcome = r; fault = None } }) (nothing_read t.outcome)
 not_tried (Some commands.Write) t b buffer = nothing_written t.outcome t refl b buffer
-not_tried (Some commands.Verify) t b buffer = ap {B = Moved} (λ (r : Outcome). record { buffer = buffer; put = []; progress = record { tried = 0; outcome = r; fault = None } }) (nothing_read t.outcome)
+not_tried (Some commands.Verify) t b buffer = ap {B = Moved} (λ (r : Option Failure). record { buffer = buffer; put = []; progress = record { tried = 0; outcome = r; fault = None } }) (nothing_read t.outcome)
 not_tried (Some commands.SetDeviceLock) t b buffer = refl
 not_tried (Some commands.DeleteDeviceLock) t b buffer = refl
 not_tried (Some commands.SetUnitLock) t b buffer = refl

@@ -2,7 +2,7 @@ ghost use Rattle.std.specs.Prelude.{◌≡◌};
 ghost use Rattle.transfer.specs.Reports.{with_status, report_bytes};
 
 use flex::status::Status;
-use host::transaction::Outcome;
+use host::transaction::Failure;
 
 /// How many bytes a report has.
 pub const REPORT_BYTES: usize = 13;
@@ -30,13 +30,13 @@ fn with_status(status: Status, address: u32) -> [u8; REPORT_BYTES]
 }
 
 /// The report of what a transaction came to.
-pub fn report_bytes(outcome: Outcome) -> [u8; REPORT_BYTES]
+pub fn report_bytes(outcome: Option<Failure>) -> [u8; REPORT_BYTES]
     ensures { result ≡ report_bytes outcome }
 {
     match outcome {
-        Outcome::Fine => [0; REPORT_BYTES],
-        Outcome::EndOfVolume => with_status(Status::EndOfVolume, 0),
-        Outcome::UnitFault => with_status(Status::UnitFault, 0),
-        Outcome::Unrecoverable(address) => with_status(Status::UnrecoverableData, address),
+        None => [0; REPORT_BYTES],
+        Some(Failure::EndOfVolume) => with_status(Status::EndOfVolume, 0),
+        Some(Failure::UnitFault) => with_status(Status::UnitFault, 0),
+        Some(Failure::Unrecoverable(address)) => with_status(Status::UnrecoverableData, address),
     }
 }

@@ -2,14 +2,12 @@ ghost use Rattle.std.specs.Prelude.{◌≡◌, ◌≤◌, true, length, is_ok};
 ghost use Rattle.flex.specs.Maps.{block_at, geometry_at, padded, unit_at, Makes, Named};
 ghost use Rattle.flex.specs.Units.{Sound};
 
-use super::{UNITS, UnitMap};
+use super::{CONTROLLER, UNITS, UnitMap};
 use crate::geometry::Geometry;
 use crate::status::Status;
 use crate::unit::Unit;
 use crate::units::are_sound;
 
-/// The number of the controller, which messages may address as a unit with no place.
-const CONTROLLER: u8 = 15;
 /// The controller's geometry.
 const NO_PLACES: Geometry = Geometry {
     cylinders: 0,
