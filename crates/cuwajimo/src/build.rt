@@ -2,11 +2,12 @@ ghost use Rattle.std.specs.Prelude.{◌≡◌, not, is_some, is_ok};
 ghost use Rattle.cuwajimo.specs.Troubles.{Blamed};
 ghost use Rattle.cuwajimo.specs.Plans.{first_set, FillAdded};
 
-use super::plan::{Fill, Plan, Run, Source};
+use super::plan::{Fill, Plan, Source};
 use super::trouble::{Spot, Trouble};
 use super::words::{byte, end, is_number, number, short, word};
 use flex::geometry::Geometry;
 use flex::unit::Unit;
+use layer::run::Run;
 use store::fault::Protection;
 
 /// `flat N`, or `flat DATA MAP`.
