@@ -3,11 +3,12 @@ ghost use Rattle.cuwajimo.specs.Troubles.{Blamed};
 ghost use Rattle.cuwajimo.specs.Plans.{first_set, FillAdded};
 
 use super::line::Line;
-use super::plan::{Fill, Plan, Run, Source};
+use super::plan::{Fill, Plan, Source};
 use super::trouble::{Spot, Trouble};
 use super::words::{byte, is_number, number};
 use flex::geometry::Geometry;
 use flex::unit::Unit;
+use layer::run::Run;
 use store::fault::Protection;
 
 /// `flat N`, or `flat DATA MAP`.

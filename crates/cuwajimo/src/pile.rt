@@ -91,13 +91,7 @@ fn layered<S: Store>(plan: &Plan, image: S) -> WriteGuard<Window<S>>
     ensures exact { result ≡ layers plan.now image }
     ensures plain { NoLayer plan.now → guarded (windowed S.Store.blocks) result ≡ S.Store.blocks image }
 {
-    let shown = plan.shown();
-    let guarded = plan.guarded();
-    WriteGuard::new(
-        Window::new(image, shown.first, shown.count),
-        guarded.first,
-        guarded.count,
-    )
+    WriteGuard::new(Window::new(image, plan.shown()), plan.guarded())
 }
 
 /// A job on the plan's whole pile over an image: window, write guard and, if it asks for one, a cache.

@@ -2,6 +2,7 @@ use super::common::*;
 use cache::cache::Cache;
 use flat::flat::FlatImage;
 use layer::guard::WriteGuard;
+use layer::run::Run;
 use std::test::Fail;
 use store::fault::{FaultKind, Protection};
 use store::store::Store;
@@ -95,7 +96,7 @@ fn what_is_kept(rt: HostRuntime) -> Result<(), Fail> {
     let Ok(image) = FlatImage::open(&mut bytes, &mut damage, Protection::Open) else {
         return Err(Fail::new("refused"));
     };
-    let mut cache = Cache::new(WriteGuard::new(image, 0, 1));
+    let mut cache = Cache::new(WriteGuard::new(image, Run { first: 0, count: 1 }));
     let done = keeps_open_ones(&mut cache);
     let mut guard = cache.release();
     assert!(rt; done && reads(&mut guard, 1, 4) && is_protected(&guard, 0));
