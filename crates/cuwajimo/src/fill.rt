@@ -1,4 +1,4 @@
-ghost use Rattle.std.specs.Prelude.{◌≡◌, ◌<◌};
+ghost use Rattle.std.specs.Prelude.{◌≡◌};
 ghost use Rattle.image.specs.Images.{harmed};
 ghost use Rattle.cuwajimo.specs.Bytes.{pattern_byte, pattern_block};
 ghost use Rattle.cuwajimo.specs.Fills.{patterned, harmed_all, filled, filled_all};
@@ -30,11 +30,10 @@ impl Mark for RawImage<'_> {
 }
 
 /// The byte that pattern `p` has at a place of a block.
-fn pattern_byte(p: u32, block: u32, place: usize) -> u8
-    requires { place < 256 }
+fn pattern_byte(p: u32, block: u32, place: u32) -> u8
     ensures { result ≡ pattern_byte p block place }
 {
-    ((u64::from(p) + 7 * u64::from(block) + place as u64) % 256) as u8
+    ((u64::from(p) + 7 * u64::from(block) + u64::from(place)) % 256) as u8
 }
 
 /// The bytes that pattern `p` has in a block.
@@ -43,7 +42,7 @@ fn pattern(p: u32, block: u32) -> [u8; BLOCK_BYTES]
 {
     let mut bytes = [0u8; BLOCK_BYTES];
     for (place, byte) in bytes.iter_mut().enumerate() {
-        *byte = pattern_byte(p, block, place);
+        *byte = pattern_byte(p, block, place as u32);
     }
     bytes
 }

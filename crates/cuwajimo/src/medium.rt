@@ -5,13 +5,11 @@ use super::fill::Mark;
 use super::plan::Source;
 use super::trouble::Trouble;
 use flat::flat::FlatImage;
+use image::check::BLOCK_LIMIT;
 use image::refusal::Refusal;
 use raw::raw::RawImage;
 use std::alloc::Global;
 use store::fault::{BLOCK_BYTES, Protection};
-
-/// How many blocks an image may have.
-const MOST_BLOCKS: u32 = 4_194_304;
 
 /// How many bytes a record of a raw image has, and how many records a track may have.
 const RECORD_BYTES: usize = 276;
@@ -38,7 +36,7 @@ fn flat(heap: Global, blocks: u32) -> Result<Medium, Trouble>
     ensures memory { IfOk result (ZeroFlat blocks) }
     ensures count { IfOk result (λ m. medium_count m ≡ (if nat_le blocks 4194304 then Some blocks else None)) }
 {
-    if blocks > MOST_BLOCKS {
+    if blocks as usize > BLOCK_LIMIT {
         return Ok(Medium::Flat {
             bytes: vec![in heap]?,
             damage: vec![in heap; 0u8; 1]?,
