@@ -1,15 +1,16 @@
 -- What the decoder's step makes of a code, told by the part that the code and the bytes after it spell.
-use Rattle.std.proofs.Common.{◌≡◌, ℕ, ◌+◌, ◌-◌, ◌<◌, ◌≤◌, Bool, true, false, cond, ◌&&◌, eqb, leb, ◌⊎◌, List, [], ◌∷◌, ◌++◌, length, take, drop, Some, None, Ok, Err, Option, Result, sym, refl, ap, ◌∙◌, inl, inr, ⊎_elim, arith}
+use Rattle.std.proofs.Common.{◌≡◌, ◌==◌, ℕ, ◌+◌, ◌-◌, ◌<◌, ◌≤◌, Bool, true, false, cond, ◌&&◌, eqb, leb, ◌⊎◌, List, [], ◌∷◌, ◌++◌, length, take, drop, Some, None, Ok, Err, Option, Result, sym, refl, ap, ◌∙◌, inl, inr, ⊎_elim, arith}
 use Rattle.std.proofs.lemmas.List.{length-append, length-drop, length-take-le, take-append-le, drop-append-le, take-append-drop, take_at}
 use Rattle.std.proofs.lemmas.Bool.{eqb-true, ne_eqb, le-leb, lt-leb, leb-true, and_from, and_parts, cond-true, cond-false, false_from_ne_true, cases_Bool, cases_eq, cases_lt}
 use Rattle.std.proofs.lemmas.Option.{none-some}
+use Rattle.std.specs.List.{find}
 use Rattle.message.specs.declared.command.Command.{Command}
 use Rattle.message.specs.declared.command.Command.TheVariants.{Read, Write, Verify, SetDeviceLock, DeleteDeviceLock, SetUnitLock, DeleteUnitLock}
 use Rattle.message.specs.declared.draft.Draft.{Draft}
 use Rattle.flex.specs.declared.status.Status.{Status}
 use Rattle.flex.specs.declared.status.Status.TheVariants.{IllegalOpcode, MessageSequence, MessageLength}
 use Rattle.flex.specs.declared.unit_map.UnitMap.{UnitMap}
-use Rattle.message.specs.Commands.{code_of, commands, command_among, command_at}
+use Rattle.message.specs.Commands.{code_of, commands, command_at}
 use Rattle.message.specs.Operands.{number, number_in, vector_of, vector_within}
 use Rattle.message.specs.Messages.{takes_unit, takes_address, takes_length, takes_command, with_unit, with_address, with_vector, with_length, with_command}
 use Rattle.message.specs.Decoding.{taking, place_read, vector_read, amount_read, command_read, command_set, step}
@@ -53,7 +54,7 @@ step_command m d SetUnitLock rest = refl
 step_command m d DeleteUnitLock rest = refl
 
 -- a code that has a command is that command's
-command_code : (ks : List Command) (code : ℕ) (k : Command) → command_among ks code ≡ Some k → code ≡ code_of k
+command_code : (ks : List Command) (code : ℕ) (k : Command) → find (λ k. code == code_of k) ks ≡ Some k → code ≡ code_of k
 command_code [] code k e = absurd (none-some _ e)
 command_code (x ∷ ks) code k e =
     ⊎_elim

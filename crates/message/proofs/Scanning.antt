@@ -1,5 +1,5 @@
 -- One code of a message after another, over the list of its bytes.
-use Rattle.std.proofs.Common.{◌≡◌, ℕ, zero, suc, ◌-◌, ◌<◌, ◌≤◌, Bool, true, false, cond, List, [], ◌∷◌, length, get_or, take, drop, Ok, Err, Result, sym, refl, ap, ◌∙◌, arith}
+use Rattle.std.proofs.Common.{◌≡◌, ℕ, zero, suc, ◌-◌, ◌≤◌, Bool, true, false, cond, List, [], ◌∷◌, length, get_or, take, drop, Ok, Err, Result, sym, refl, ap, ◌∙◌, arith}
 use Rattle.std.proofs.lemmas.List.{length-append, take_rest}
 use Rattle.message.specs.declared.draft.Draft.{Draft}
 use Rattle.flex.specs.declared.status.Status.{Status}
@@ -51,16 +51,9 @@ module _ (m : UnitMap) (left : List ℕ) (d : Draft) (r : Result (Draft × ℕ) 
   at_first [] l = absurd (omega arith)
   at_first (b ∷ bs) l = rw take_rest
 
-  pub scan_stops : (s : Status) → r ≡ Err s → scan m left 0 d ≡ Err s
-  scan_stops s e = at_first left h ∙ ap (goes_on m (others left)) (sym is ∙ e)
-
   pub scan_more : (d' : Draft) (n : ℕ) → r ≡ Ok (d', n) → scan m left 0 d ≡ scan m (drop n (others left)) 0 d'
   scan_more d' n e = at_first left h ∙ ap (goes_on m (others left)) (sym is ∙ e) ∙ scan_skip m n (others left) d'
 
   -- what a code takes is left after it
   pub step_ends : (d' : Draft) (n : ℕ) → r ≡ Ok (d', n) → n ≤ length (others left)
   step_ends d' n e = step_within m d (get_or left 0 0) (others left) d' n (sym is ∙ e)
-
-pub scan_none : (m : UnitMap) (left : List ℕ) (d : Draft) → length left < 1 → scan m left 0 d ≡ Ok d
-scan_none m [] d h = refl
-scan_none m (b ∷ bs) d h = absurd (omega arith)

@@ -1,4 +1,4 @@
-use Rattle.std.proofs.Common.{◌≡◌, ◌-◌, ◌<◌, ◌≤◌, true, ◌&&◌, List, [], ◌∷◌, length, get_or, take, drop, refl, arith, rules, tests}
+use Rattle.std.proofs.Common.{◌≡◌, ◌-◌, ◌≤◌, ◌&&◌, List, [], ◌∷◌, length, get_or, take, drop, arith, rules, tests}
 use Rattle.std.proofs.lemmas.Bool.Decides.{nat_tests}
 use Rattle.std.proofs.lemmas.Iterator.{YieldsList-from_slice}
 use Rattle.std.proofs.lemmas.Iterator.Search.{all_from_yields_List}
@@ -16,23 +16,9 @@ first_apart : (us : List DiscUnit) → 1 ≤ length us → all_apart us ≡ (lis
 first_apart [] h = absurd (omega arith)
 first_apart (u ∷ us) h = rw take_rest
 
-none_apart : (us : List DiscUnit) → length us < 1 → all_apart us ≡ true
-none_apart [] h = refl
-none_apart (u ∷ us) h = absurd (omega arith)
-
-pub returns-then-not-all : goal.returns-then-not-all
-returns-then-not-all c =
-    let us = c.loop-left.left.now in
-    let first = first_apart us c.in-len1-up.len_at_least in
-    let e : c.all.result ≡ list_all (apart (get_or us 0 blank)) (others us) = all_from_yields_List (apart (get_or us 0 blank)) _ _ c.all.result c.all.ensures.ran (YieldsList-from_slice (others us) cc) (λ x b q k. search (rules, tests)) in
-    grind (arith, nat_tests)
-
 pub loop-left-preserved : goal.loop-left-preserved
 loop-left-preserved c =
     let us = c.loop-left.left.now in
     let first = first_apart us c.in-len1-up.len_at_least in
     let e : c.all.result ≡ list_all (apart (get_or us 0 blank)) (others us) = all_from_yields_List (apart (get_or us 0 blank)) _ _ c.all.result c.all.ensures.ran (YieldsList-from_slice (others us) cc) (λ x b q k. search (rules, tests)) in
     grind (arith, nat_tests)
-
-pub returns : goal.returns
-returns c = let e = none_apart c.loop-left.left.now c.in_default.len_below in cc
