@@ -5,7 +5,7 @@ ghost use Rattle.host.specs.Messages.{locks_after, with_unit_lock};
 use flex::unit_map::UNITS;
 use message::command::Command;
 
-/// The locks that a host holds, by default none: the device's, and the units'. The controller has no lock.
+/// The locks that a host holds, by default none. The controller has no lock.
 #[derive(Clone, Copy, Default)]
 pub struct Locks {
     pub device: bool,

@@ -76,6 +76,7 @@ impl Span {
         ensures fault { result ≡ read_fault self.now.transaction.unit self.now.first self.now.transaction.at (in_span self.now (S.Store.blocks store.old)) }
         ensures same { S.Store.blocks store.new ≡ S.Store.blocks store.old }
     {
+        // One loop for this and `read` would ask for each block where its bytes go, and be no shorter.
         let mut scratch = [0u8; BLOCK_BYTES];
         let mut fault = None;
         for k in 0..self.count() {

@@ -1,7 +1,7 @@
-ghost use Rattle.std.specs.Prelude.{◌≡◌, ◌*◌, ◌≤◌, true, length, Some, None};
+ghost use Rattle.std.specs.Prelude.{◌≡◌, true, Some, None};
 ghost use Rattle.std.specs.Result.{result_err};
 ghost use Rattle.host.specs.Progress.{lies_in, segment_of};
-ghost use Rattle.transfer.specs.Segments.{start_of, laid, after_reading, after_writing, write_by, moved_by_command, moved_over, holds_segment, refusal_of, progress_by, buffer_by, blocks_by};
+ghost use Rattle.transfer.specs.Segments.{start_of, laid, after_reading, moved_by_command, moved_over, holds_segment, refusal_of, progress_by, buffer_by, blocks_by};
 ghost use Rattle.transfer.specs.Spans.{in_span};
 ghost use Rattle.transfer.specs.Transfers.{SegmentLaw};
 
@@ -15,27 +15,15 @@ use message::command::Command;
 use store::fault::BLOCK_BYTES;
 use store::store::Store;
 
-/// What there is to report once blocks were read: the first that could not be read, unless there is something already.
-fn after_reading(outcome: Option<Failure>, fault: Option<HostFault>) -> Option<Failure>
-    ensures { result ≡ after_reading outcome fault }
-{
-    outcome.or(fault.map(|met| Failure::Unrecoverable(met.address)))
-}
-
-/// What there is to report once blocks were written.
-fn after_writing(outcome: Option<Failure>, fault: Option<HostFault>) -> Option<Failure>
-    ensures { result ≡ after_writing outcome fault }
-{
-    outcome.or(fault.map(|_| Failure::UnitFault))
-}
-
 /// What a transaction comes to once all blocks of its next segment were read.
 fn all_read(transaction: Transaction, fault: Option<HostFault>) -> Progress
     ensures { result ≡ record { tried = segment_of transaction; outcome = after_reading transaction.outcome fault; fault = fault } }
 {
     Progress {
         tried: transaction.segment(),
-        outcome: after_reading(transaction.outcome, fault),
+        outcome: transaction
+            .outcome
+            .or(fault.map(|met| Failure::Unrecoverable(met.address))),
         fault,
     }
 }
@@ -51,24 +39,7 @@ fn not_tried(transaction: Transaction) -> Progress
     }
 }
 
-/// A write's segment: nothing is tried once there is something to report.
-fn write_segment<S: Store>(store: &mut S, blocks: Span, buffer: &[u8]) -> Progress
-    requires { 256 * segment_of blocks.transaction ≤ length buffer.now }
-    ensures progress { result ≡ (write_by blocks.transaction.outcome blocks.transaction blocks.first (in_span blocks (S.Store.blocks store.old)) buffer.now).progress }
-    ensures after { S.Store.blocks store.new ≡ laid (S.Store.blocks store.old) blocks.first (write_by blocks.transaction.outcome blocks.transaction blocks.first (in_span blocks (S.Store.blocks store.old)) buffer.now).put }
-{
-    if blocks.transaction.outcome.is_some() {
-        return not_tried(blocks.transaction);
-    }
-    let (tried, fault) = blocks.write(store, buffer);
-    Progress {
-        tried,
-        outcome: after_writing(None, fault),
-        fault,
-    }
-}
-
-/// What a transaction's command does with the blocks of its next segment.
+/// What a transaction's command does with the blocks of its next segment. A Write tries nothing once there is something to report.
 #[tactic(auto, unfolding(crate::specs::Segments::moved_by_command), using(crate::proofs::Spans::length_span))]
 fn move_blocks<S: Store>(store: &mut S, blocks: Span, buffer: &mut [u8]) -> Progress
     requires { holds_segment blocks.transaction buffer.old ≡ true }
@@ -80,7 +51,14 @@ fn move_blocks<S: Store>(store: &mut S, blocks: Span, buffer: &mut [u8]) -> Prog
     match transaction.command {
         Some(Command::Read) => all_read(transaction, blocks.read(store, buffer)),
         Some(Command::Verify) => all_read(transaction, blocks.verify(store)),
-        Some(Command::Write) => write_segment(store, blocks, buffer),
+        Some(Command::Write) if transaction.outcome.is_none() => {
+            let (tried, fault) = blocks.write(store, buffer);
+            Progress {
+                tried,
+                outcome: fault.map(|_| Failure::UnitFault),
+                fault,
+            }
+        }
         _ => not_tried(transaction),
     }
 }

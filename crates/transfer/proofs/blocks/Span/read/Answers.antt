@@ -1,7 +1,6 @@
 use Rattle.std.proofs.Common.{◌≡◌, ◌+◌, length, ap, ◌∙◌, arith}
 use Rattle.std.specs.List.{slice_get}
 use Rattle.store.specs.Blocks.{buffer_at}
-use Rattle.host.specs.Progress.{segment_of}
 use Rattle.transfer.specs.Segments.{zeros}
 use Rattle.transfer.proofs.ReadTurns.{long_more, read_more, fault_more}
 use Rattle.transfer.proofs.blocks.Span.read.Goals as goal

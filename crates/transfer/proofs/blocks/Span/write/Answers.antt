@@ -1,4 +1,4 @@
-use Rattle.std.proofs.Common.{length, sym, ap, ◌∙◌, arith, rules}
+use Rattle.std.proofs.Common.{sym, ap, ◌∙◌, arith, rules}
 use Rattle.std.proofs.lemmas.List.{length_push}
 use Rattle.host.specs.Progress.{segment_of}
 use Rattle.transfer.proofs.WriteTurns.{turn_of, one_more, stopped_there, none_written}
