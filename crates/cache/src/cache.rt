@@ -91,7 +91,6 @@ impl<S: Store> Cache<S> {
     fn room(&mut self, block: u32) -> usize
         ensures place { result ≡ place_for self.old.slots self.old.turn block }
         ensures within { result < 8 }
-        ensures eight { length self.old.slots ≡ 8 }
         ensures held { held S.Store.blocks self.new ≡ with_room (held S.Store.blocks self.old) block }
     {
         let own = find(&self.slots, Some(block));
@@ -129,7 +128,6 @@ impl<S: Store> Cache<S> {
     fn write_back(&mut self, place: usize)
         requires { place < 8 }
         ensures held { held S.Store.blocks self.new ≡ written_back (held S.Store.blocks self.old) place }
-        ensures eight { length self.old.slots ≡ 8 }
         ensures whole { WholeSlot (slice_index_or self.old.slots place no_slot) }
     {
         if let Some(block) = self.slots[place].block {
