@@ -1,4 +1,4 @@
-ghost use Rattle.std.specs.Prelude.{◌≡◌, ◌<◌, true, length, is_some, is_ok, if◌then◌else◌, Some, slice_index_or};
+ghost use Rattle.std.specs.Prelude.{◌≡◌, ◌<◌, true, is_some, is_ok, if◌then◌else◌, Some, slice_index_or};
 ghost use Rattle.store.specs.Blocks.{read_answer, read_buffer, write_answer, written};
 ghost use Rattle.std.specs.List.{slice_get};
 ghost use Rattle.cache.specs.Caches.{no_slot, WholeSlot, kept, vacant_slots, cached_by, cache_lawful, held, without_block, turn_place, giving_up, place_for, with_room, keeping, written_back, after_read, after_write, after_settle, is_open_at, KeptLate};
