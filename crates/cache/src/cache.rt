@@ -1,4 +1,4 @@
-ghost use Rattle.std.specs.Prelude.{◌≡◌, ◌<◌, true, length, is_some, is_ok, if◌then◌else◌, Some, slice_index_or};
+ghost use Rattle.std.specs.Prelude.{◌≡◌, ◌<◌, true, is_some, is_ok, if◌then◌else◌, Some, slice_index_or};
 ghost use Rattle.store.specs.Blocks.{read_answer, read_buffer, write_answer, written};
 ghost use Rattle.std.specs.List.{slice_get};
 ghost use Rattle.cache.specs.Caches.{no_slot, WholeSlot, kept, vacant_slots, cached_by, cache_lawful, held, without_block, turn_place, giving_up, place_for, with_room, keeping, written_back, after_read, after_write, after_settle, is_open_at, KeptLate};
@@ -91,7 +91,6 @@ impl<S: Store> Cache<S> {
     fn room(&mut self, block: u32) -> usize
         ensures place { result ≡ place_for self.old.slots self.old.turn block }
         ensures within { result < 8 }
-        ensures eight { length self.old.slots ≡ 8 }
         ensures held { held S.Store.blocks self.new ≡ with_room (held S.Store.blocks self.old) block }
     {
         let own = find(&self.slots, Some(block));
@@ -129,7 +128,6 @@ impl<S: Store> Cache<S> {
     fn write_back(&mut self, place: usize)
         requires { place < 8 }
         ensures held { held S.Store.blocks self.new ≡ written_back (held S.Store.blocks self.old) place }
-        ensures eight { length self.old.slots ≡ 8 }
         ensures whole { WholeSlot (slice_index_or self.old.slots place no_slot) }
     {
         if let Some(block) = self.slots[place].block {

@@ -1,5 +1,5 @@
 -- What a write guard answers, from what the store below answers.
-use Rattle.std.proofs.Common.{◌≡◌, ℕ, zero, suc, ◌<◌, ◌≤◌, Bool, true, false, cond, List, [], ◌∷◌, length, Some, None, Err, Option, sym, refl, ap, ◌∙◌, inl, inr, arith}
+use Rattle.std.proofs.Common.{◌≡◌, ℕ, zero, suc, ◌<◌, ◌≤◌, Bool, true, false, List, [], ◌∷◌, length, Some, None, Err, Option, sym, refl, ap, ◌∙◌, inl, inr, arith}
 use Rattle.std.specs.List.{slice_get}
 use Rattle.std.specs.Option.{option_map}
 use Rattle.std.proofs.lemmas.Option.{slice_get_past}
@@ -10,7 +10,7 @@ use Rattle.store.proofs.Nth.{same_nth}
 use Rattle.store.proofs.Writes.{nth_written_same, nth_written_other}
 use Rattle.layer.specs.declared.run.Run.{Run}
 use Rattle.layer.specs.Runs.{in_run}
-use Rattle.layer.specs.Guards.{guard, guard_below, shut, tightened, RunStays, nth_guard, length_guard}
+use Rattle.layer.specs.Guards.{guard, shut, tightened, RunStays, nth_guard, length_guard}
 
 -- Being in the run or not changes neither what is read nor the number.
 read_shut : (o : Option Block) (r : Bool) (b : ℕ) → read_at b o ≡ read_at b (option_map (shut r) o)
@@ -59,16 +59,6 @@ module _ (bs : List Block) (run : Run) (b : ℕ) where
       pub past_written : guard bs run ≡ written (guard bs run) b bytes
       past_written = rw (whole, nothing)
 
-      pub past_below : bs ≡ guard_below bs run b bytes
-      past_below = way (in_run run b)
-        where
-          same : bs ≡ written bs b bytes
-          same = rw (whole, slice_get_past bs b past)
-
-          way : (t : Bool) → bs ≡ cond t bs (written bs b bytes)
-          way true = refl
-          way false = same
-
     -- in the run a write is refused
     module _ (within : b < length bs) (covered : in_run run b ≡ true) where
       here : slice_get (guard bs run) b ≡ Some (shut true (some_at bs b within).0)
@@ -79,9 +69,6 @@ module _ (bs : List Block) (run : Run) (b : ℕ) where
 
       pub run_written : guard bs run ≡ written (guard bs run) b bytes
       run_written = rw (whole, here)
-
-      pub run_below : bs ≡ guard_below bs run b bytes
-      run_below = sym (ap (λ t. cond t bs (written bs b bytes)) covered)
 
     -- outside it a write goes below
     module _ (free : in_run run b ≡ false) where
@@ -108,9 +95,6 @@ module _ (bs : List Block) (run : Run) (b : ℕ) where
                 ∙ sym (nth_guard bs run j)
                 ∙ sym (nth_written_other (guard bs run) b bytes j ne)
           ])
-
-      pub free_below : written bs b bytes ≡ guard_below bs run b bytes
-      free_below = sym (ap (λ t. cond t bs (written bs b bytes)) free)
 
       pub free_stays : RunStays bs (written bs b bytes) run
       free_stays j covered = nth_written_other bs b bytes j (λ e. let f : true ≡ false = sym covered ∙ ap (in_run run) e ∙ free in cc)

@@ -1,15 +1,12 @@
 -- Which record a block has: one of its own, in order, never the spare one of its track.
-use Rattle.std.proofs.Common.{◌≡◌, ℕ, zero, suc, ◌+◌, ◌-◌, ◌*◌, ◌/◌, ◌%◌, ◌<◌, ◌≤◌, true, cond, List, [], ◌∷◌, length, get_or, leb, is_some, Some, None, sym, ap, ◌∙◌, subst, inl, inr, add-mul, arith}
-use Rattle.std.proofs.lemmas.Nat.{div-add-mod', div_below, div-mul-add, mod_below, mod-mul-add, mul-le}
+use Rattle.std.proofs.Common.{◌≡◌, ℕ, ◌+◌, ◌-◌, ◌*◌, ◌/◌, ◌%◌, ◌<◌, ◌≤◌, true, cond, List, length, get_or, leb, is_some, Some, None, sym, ap, ◌∙◌, inl, inr, add-mul, arith}
+use Rattle.std.proofs.lemmas.Nat.{div-add-mod', div-mul-add, mod_below, mod-mul-add, mul-le}
 use Rattle.std.proofs.lemmas.Bool.{cases_lt, cases_order, lt-ltb, le-ltb, leb-true, leb-false}
 use Rattle.std.specs.List.{position_or_len}
 use Rattle.std.proofs.lemmas.List.Sums.{fails_before_first}
 use Rattle.std.proofs.lemmas.List.Quantifiers.{position-Some}
 use Rattle.std.proofs.lemmas.Bool.Decides.{nat_tests}
-use Rattle.raw.specs.Raw.{place_of, raw_record, raw_count, raw_size, misplaced, raw_refusal, spare_refusal, FirstMisplaced, Layout}
-
-pub a_block_a_track : (tracks records : ℕ) → 2 ≤ records → tracks ≤ tracks * (records - 1)
-a_block_a_track tracks records h = omega (arith, mul-le tracks 1 tracks (records - 1) (omega arith) (omega arith))
+use Rattle.raw.specs.Raw.{place_of, raw_record, raw_count, raw_size, misplaced, FirstMisplaced, Layout}
 
 -- places within one track
 place_below : (s i r : ℕ) → i < r - 1 → place_of s i < r
@@ -31,18 +28,6 @@ place_onto s p r hs hp ne = elim (cases_lt p s) [
 module _ (n t r b : ℕ) (h : b < raw_size n t r) where
   pub records_two : 2 ≤ r
   records_two = grind (arith, nat_tests)
-
-  pub records_few : r ≤ 256
-  records_few = grind (arith, nat_tests)
-
-  pub size_is : raw_size n t r ≡ t * (r - 1)
-  size_is = grind (arith, nat_tests)
-
-  pub few_blocks : b < 4194304
-  few_blocks = grind (arith, nat_tests)
-
-  pub track_there : b / (r - 1) < t
-  track_there = div_below b (r - 1) t (omega (arith, records_two)) (omega (arith, size_is))
 
 module _ (spares : List ℕ) (r : ℕ) (two : 2 ≤ r) where
   abbrev record_of : ℕ → ℕ
@@ -108,13 +93,6 @@ pub first_misplaced : (r k : ℕ) (spares : List ℕ) → misplaced r spares ≡
 first_misplaced r k spares e =
     let f = position-Some (leb r) spares k 0 e in
     record { is_track = f.0; outside = leb-true r (get_or spares k 0) f.1; earlier = λ i h. leb-false r (get_or spares i 0) (f.2 i h) }
-
--- lengths that fit have few enough tracks
-pub few_tracks : (n t r : ℕ) → is_some (raw_count n t r) ≡ true → t ≤ 4194304
-few_tracks n t r e = let m = a_block_a_track t r in grind (arith, nat_tests)
-
-pub past_lengths : (n : ℕ) (spares : List ℕ) (r : ℕ) → is_some (raw_count n (length spares) r) ≡ true → raw_refusal n spares r ≡ spare_refusal (misplaced r spares)
-past_lengths n spares r e = grind (arith, nat_tests)
 
 pub laid_out : (n : ℕ) (spares : List ℕ) (r : ℕ) → is_some (raw_count n (length spares) r) ≡ true → misplaced r spares ≡ None → Layout spares r (raw_size n (length spares) r)
 laid_out n spares r some none = record {

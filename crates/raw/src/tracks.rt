@@ -9,7 +9,10 @@ pub(super) const HEADER_BYTES: usize = 6;
 
 /// The byte at which the record of a block begins.
 pub(super) fn record_start(spares: &[u8], records: usize, block: usize) -> usize
-    requires { (2 ≤ records) × ((records ≤ 256) × ((block < 4294967296) × (block / (records - 1) < length spares.now))) }
+    requires least { 2 ≤ records }
+    requires most { records ≤ 256 }
+    requires number { block < 4294967296 }
+    requires track { block / (records - 1) < length spares.now }
     ensures { result ≡ 276 * raw_record spares.now records block }
 {
     let blocks = records - 1;

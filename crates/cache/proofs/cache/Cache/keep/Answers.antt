@@ -14,11 +14,12 @@ returns g c =
     let b = c.args.block in
     let bytes = c.args.bytes.now in
     let whole : length c.args.bytes.now ≡ 256 = search rules in
+    let eight : length c.args.self.now.slots ≡ 8 = search rules in
     let put = ap (λ (x : Slot). record { slots = set roomy.slots p x; below = g.S.Store.blocks roomy.below; turn = roomy.turn }) c.fill.ensures
     ∙ ap (λ k. put_at k p b bytes) c.room-place.ensures.held
     ∙ ap (λ q. put_at (with_room h b) q b bytes) c.room-place.ensures.place in
     record {
       held = put;
-      after = ap means put ∙ keeping_written h b bytes whole c.room-place.ensures.eight;
-      late = subst (λ k. KeptLate h k b bytes) (sym put) (keeping_late h b bytes whole c.room-place.ensures.eight);
+      after = ap means put ∙ keeping_written h b bytes whole eight;
+      late = subst (λ k. KeptLate h k b bytes) (sym put) (keeping_late h b bytes whole eight);
     }

@@ -1,5 +1,5 @@
-use Rattle.std.proofs.Common.{◌≡◌, true, length, is_some, Some, None, sym, subst, rules}
-use Rattle.raw.specs.Raw.{raw_count, misplaced, Layout}
+use Rattle.std.proofs.Common.{◌≡◌, true, length, is_some, sym, subst, rules}
+use Rattle.raw.specs.Raw.{raw_count, Layout}
 use Rattle.raw.proofs.Records.{first_misplaced, laid_out}
 use Rattle.raw.proofs.RawBlocks.{length_raw}
 use Rattle.raw.proofs.raw.RawImage.open.Goals as goal

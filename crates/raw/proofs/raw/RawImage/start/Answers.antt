@@ -1,4 +1,4 @@
-use Rattle.std.proofs.Common.{length, ◌∙◌, arith}
+use Rattle.std.proofs.Common.{length, arith}
 use Rattle.raw.specs.Lawful.{inside_raw}
 use Rattle.raw.proofs.raw.RawImage.start.Goals as goal
 
