@@ -11,22 +11,10 @@ pub const REPORT_BYTES: usize = 13;
 fn with_status(status: Status, address: u32) -> [u8; REPORT_BYTES]
     ensures { result ≡ with_status status address }
 {
-    let [a, b, c, d] = address.to_be_bytes();
-    [
-        1,
-        status.group(),
-        status.code(),
-        0,
-        0,
-        0,
-        0,
-        0,
-        0,
-        a,
-        b,
-        c,
-        d,
-    ]
+    let mut bytes = [0; REPORT_BYTES];
+    bytes[..3].copy_from_slice(&[1, status.group(), status.code()]);
+    bytes[9..].copy_from_slice(&address.to_be_bytes());
+    bytes
 }
 
 /// The report of what a transaction came to.
