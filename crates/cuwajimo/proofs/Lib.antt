@@ -1,7 +1,6 @@
 mod Comments
 mod Fills
 mod Hexadecimal
-mod Holders
 mod Layers
 mod Numbers
 mod Refilled

@@ -1,5 +1,5 @@
 -- Numbers of decimal digits, as `parse` reads them.
-use Rattle.std.proofs.Common.{◌≡◌, ℕ, ◌^◌, ◌<◌, Bool, true, false, cond, ◌&&◌, ltb, List, length, is_ok, is_some, Some, None, Ok, Err, Option, Result, sym, refl, ap, ◌∙◌, subst, rules}
+use Rattle.std.proofs.Common.{MatchResult, IsErrAnd, ◌≡◌, ℕ, ◌^◌, ◌<◌, Bool, true, false, cond, ◌&&◌, ltb, List, length, is_ok, is_some, Some, None, Ok, Err, Option, Result, sym, refl, ap, ◌∙◌, subst, rules}
 use Rattle.std.specs.Str.Parse.{ParsesUnsigned, digits_value, without_leading_plus}
 use Rattle.std.specs.Result.{result_ok}
 use Rattle.std.specs.Str.{all_ascii_digits}
@@ -51,6 +51,12 @@ pub read_by : (k : ℕ) (next : Option (List ℕ)) (result : Result ℕ Trouble)
 read_by k None result gives parses h = h
 read_by k (Some word) result gives parses h = h.2 ∙ parsed k word h.0 (parses word h.0 h.1)
 
+-- A result whose error alone is mapped has the same value.
+mapped : {X E D : Type 0} (r : Result X E) (s : Result X D) (P : E → D → Type 0) → MatchResult r (λ x. s ≡ Ok x) (λ e. IsErrAnd s (P e)) → result_ok s ≡ result_ok r
+mapped (Ok x) s P m = ap result_ok m
+mapped (Err e) (Err d) P m = refl
+mapped (Err e) (Ok x) P m = absurd m
+
 pub read_here : {X E : Type 0} (gives : List ℕ → Result X E → Type 0) (next : Option (List ℕ)) (word : List ℕ) → Some word ≡ next →
-    (r : Result X E) → gives word r → (result : Result X Trouble) → result_ok result ≡ result_ok r → ReadBy gives next result
-read_here gives next word there r given result same = subst (λ n. ReadBy gives n result) there (r, given, same)
+    (r : Result X E) → gives word r → (result : Result X Trouble) (P : E → Trouble → Type 0) → MatchResult r (λ x. result ≡ Ok x) (λ e. IsErrAnd result (P e)) → ReadBy gives next result
+read_here gives next word there r given result P m = subst (λ n. ReadBy gives n result) there (r, given, mapped r result P m)

@@ -1,5 +1,6 @@
 -- What the program says of a device.
-use Rattle.std.specs.Prelude.{ℕ, zero, suc, ◌+◌, Bool, false, cond, List, Some, None, Ok, Err, codes, Option, Result}
+use Rattle.std.specs.Prelude.{ℕ, Bool, false, List, Ok, Err, codes, find, Option, Result}
+use Rattle.std.specs.List.{range_with_len}
 use Rattle.flex.specs.declared.status.Status.{Status}
 use Rattle.host.specs.declared.locks.Locks.{Locks}
 use Rattle.host.specs.Hosts.{unit_lock}
@@ -25,10 +26,6 @@ lock_among (locks.Unit unit) (Err status) = false
 abbrev pub holds : Controller → Lock → ℕ → Bool
 holds controller lock host = lock_among lock (locks_of controller host)
 
--- The first of n hosts, from a host on, that holds a lock.
-abbrev pub holder_from : Controller → Lock → ℕ → ℕ → Option ℕ
-holder_from controller lock zero host = None
-holder_from controller lock (suc n) host = cond (holds controller lock host) (Some host) (holder_from controller lock n (host + 1))
-
+-- The first of the eight hosts that holds a lock.
 abbrev pub first_holder : Controller → Lock → Option ℕ
-first_holder controller lock = holder_from controller lock 8 0
+first_holder controller lock = find (holds controller lock) (range_with_len 0 8)

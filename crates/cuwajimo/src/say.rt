@@ -122,12 +122,7 @@ fn has<S: Store>(device: &Device<S>, host: u8, lock: Lock) -> bool
 fn holder<S: Store>(device: &Device<S>, lock: Lock) -> Option<u8>
     ensures { result ≡ first_holder device.now.controller lock }
 {
-    for host in 0..HOSTS as u8 {
-        if has(device, host, lock) {
-            return Some(host);
-        }
-    }
-    None
+    (0..HOSTS as u8).find(|host| has(device, *host, lock))
 }
 
 /// `locks: device none units 0=1 3=2`

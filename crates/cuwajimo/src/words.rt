@@ -12,10 +12,7 @@ pub(super) fn word<'a>(spot: Spot, next: Option<&'a str>) -> Result<&'a str, Tro
     ensures value { option_map (λ x. x.now) (result_ok result) ≡ option_map (λ x. x.now) next.entry }
     ensures line { Blamed spot.line result }
 {
-    let Some(word) = next else {
-        return Err(spot.trouble("a word is missing"));
-    };
-    Ok(word)
+    next.ok_or_else(|| spot.trouble("a word is missing"))
 }
 
 /// A word that has to be there and to stand for a value of the type, or the trouble in these words.
@@ -26,10 +23,7 @@ where
     ensures line { Blamed spot.line result }
 {
     let word = word(spot, next)?;
-    match word.parse::<T>() {
-        Ok(value) => Ok(value),
-        Err(_) => Err(spot.about(wanted, word)),
-    }
+    word.parse::<T>().map_err(|_| spot.about(wanted, word))
 }
 
 /// A decimal number of four bytes.
