@@ -16,6 +16,13 @@ abbrev pub phase_word : Ticket → List ℕ → List ℕ
 phase_word (Execution ticket) segments = segments
 phase_word (Report ticket) segments = codes "report"
 
+-- The kind of ticket that a command gets, and what comes after a segment.
+abbrev pub kind_of_ticket : Ticket → List ℕ
+kind_of_ticket ticket = phase_word ticket (codes "execution")
+
+abbrev pub what_follows : Ticket → List ℕ
+what_follows ticket = phase_word ticket (codes "more")
+
 -- A lock among those of a host; a host above 7 has none.
 abbrev pub lock_among : Lock → Result Locks Status → Bool
 lock_among locks.Device (Ok held) = held.device

@@ -1,5 +1,5 @@
 ghost use Rattle.std.specs.Prelude.{◌≡◌};
-ghost use Rattle.cuwajimo.specs.Answers.{phase_word, holds, first_holder};
+ghost use Rattle.cuwajimo.specs.Answers.{phase_word, kind_of_ticket, what_follows, holds, first_holder};
 
 use super::call::Act;
 use super::fnv::fnv1a;
@@ -46,13 +46,27 @@ pub(super) fn refused_buffer(
 }
 
 /// What a ticket is for: its transaction's segments, for which there is this word, or its report.
-pub(super) fn phase(ticket: &Ticket, segments: &'static str) -> &'static str
+fn phase(ticket: &Ticket, segments: &'static str) -> &'static str
     ensures { result.now ≡ phase_word ticket.now segments.now }
 {
     match ticket {
         Ticket::Execution(_) => segments,
         Ticket::Report(_) => "report",
     }
+}
+
+/// What a command's ticket is for.
+pub(super) fn opened(ticket: &Ticket) -> &'static str
+    ensures { result.now ≡ kind_of_ticket ticket.now }
+{
+    phase(ticket, "execution")
+}
+
+/// What comes after a segment.
+pub(super) fn follows(ticket: &Ticket) -> &'static str
+    ensures { result.now ≡ what_follows ticket.now }
+{
+    phase(ticket, "more")
 }
 
 pub(super) fn moved(rt: &HostRuntime, host: u8, next: &str, buffer: &[u8]) -> Result<(), Trouble> {

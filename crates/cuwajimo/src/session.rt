@@ -38,7 +38,7 @@ impl<S: Store> Session<'_, S> {
     fn command(&mut self, host: u8, bytes: &[u8]) -> Result<(), Trouble> {
         match self.device.command(host, bytes) {
             Ok(ticket) => {
-                let phase = say::phase(&ticket, "execution");
+                let phase = say::opened(&ticket);
                 self.desk.put(&mut self.device, host, ticket);
                 println!(self.rt; "command {host}: {phase}")?;
                 Ok(())
@@ -53,7 +53,7 @@ impl<S: Store> Session<'_, S> {
             Some(Ticket::Execution(ticket)) => {
                 match self.device.segment(ticket, buffer.as_mut_slice()) {
                     Ok(ticket) => {
-                        let next = say::phase(&ticket, "more");
+                        let next = say::follows(&ticket);
                         self.desk.put(&mut self.device, host, ticket);
                         say::moved(self.rt, host, next, buffer.as_slice())
                     }
@@ -118,7 +118,8 @@ impl<S: Store> Session<'_, S> {
     }
 
     fn clear(&mut self, host: u8) -> Result<(), Trouble>
-        ensures { state S.Store.blocks self.new.device ≡ (after (state S.Store.blocks self.old.device) (calls.clear host)).1 }
+        ensures device { state S.Store.blocks self.new.device ≡ (after (state S.Store.blocks self.old.device) (calls.clear host)).1 }
+        ensures desk { self.new.desk ≡ self.old.desk }
     {
         match self.device.clear(host) {
             Ok(()) => {
@@ -130,7 +131,8 @@ impl<S: Store> Session<'_, S> {
     }
 
     fn notice(&mut self, host: u8) -> Result<(), Trouble>
-        ensures { state S.Store.blocks self.new.device ≡ (after (state S.Store.blocks self.old.device) (calls.notice host)).1 }
+        ensures device { state S.Store.blocks self.new.device ≡ (after (state S.Store.blocks self.old.device) (calls.notice host)).1 }
+        ensures desk { self.new.desk ≡ self.old.desk }
     {
         match self.device.notice(host) {
             Ok(notice) => say::noticed(self.rt, host, notice),
@@ -139,7 +141,8 @@ impl<S: Store> Session<'_, S> {
     }
 
     fn fault(&mut self, host: u8) -> Result<(), Trouble>
-        ensures { state S.Store.blocks self.new.device ≡ (after (state S.Store.blocks self.old.device) (calls.fault host)).1 }
+        ensures device { state S.Store.blocks self.new.device ≡ (after (state S.Store.blocks self.old.device) (calls.fault host)).1 }
+        ensures desk { self.new.desk ≡ self.old.desk }
     {
         match self.device.fault(host) {
             Ok(fault) => say::faulted(self.rt, host, fault),

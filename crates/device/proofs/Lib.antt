@@ -20,3 +20,4 @@ pub mod WholeBlocks
 pub mod Transfers
 pub mod Sample
 pub mod Small
+pub mod NoHost

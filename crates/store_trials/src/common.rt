@@ -3,7 +3,7 @@ use store::store::Store;
 
 /// Whether a call was refused with this fault.
 pub(super) fn refused(answer: Result<(), StoreFault>, kind: FaultKind, block: u32) -> bool {
-    answer == Err(kind.at(block))
+    answer == Err(StoreFault { kind, block })
 }
 
 /// Whether a block is sound with this byte all over.
@@ -46,7 +46,11 @@ pub(super) fn is_protected<S: Store>(store: &S, block: u32) -> bool {
 }
 
 pub(super) fn is_beyond<S: Store>(store: &S, block: u32) -> bool {
-    store.protection(block) == Err(FaultKind::Beyond.at(block))
+    store.protection(block)
+        == Err(StoreFault {
+            kind: FaultKind::Beyond,
+            block,
+        })
 }
 
 /// Whether a byte of some memory is this one.
