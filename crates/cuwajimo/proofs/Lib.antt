@@ -2,7 +2,6 @@ mod Comments
 mod Fills
 mod Hexadecimal
 mod Layers
-mod Numbers
 mod Refilled
 mod Tickets
 mod Troubles

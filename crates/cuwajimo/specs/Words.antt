@@ -1,7 +1,6 @@
 -- What the words of a line stand for. A word is the list of its bytes.
 use Rattle.std.specs.Prelude.{◌≡◌, ℕ, ◌+◌, ◌-◌, ◌*◌, Bool, cond, ◌&&◌, List, [], ◌∷◌, ◌++◌, length, Some, None, Ok, Err, Option, Result, nat_le, nat_lt}
 use Rattle.std.specs.Option.{option_map}
-use Rattle.std.specs.Result.{result_ok}
 use Rattle.std.specs.Str.{all_ascii_digits}
 use Rattle.std.specs.Str.Parse.{without_leading_plus}
 use Rattle.cuwajimo.specs.declared.trouble.Trouble.{Trouble}
@@ -25,11 +24,6 @@ number_below limit word =
 abbrev pub number_in : ℕ → Option (List ℕ) → Option ℕ
 number_in limit None = None
 number_in limit (Some word) = number_below limit word
-
--- A word that is there is read as its type's `from_str` reads it; of one that is missing, or does not read so, there is no value.
-abbrev pub ReadBy : {X E : Type 0} → (List ℕ → Result X E → Type 0) → Option (List ℕ) → Result X Trouble → Type 0
-ReadBy gives None result = result_ok result ≡ None
-ReadBy {X} {E} gives (Some word) result = (r : Result X E) × gives word r × (result_ok result ≡ result_ok r)
 
 -- What a hexadecimal digit stands for: 0 to 9, a to f, A to F.
 abbrev pub hex_digit : ℕ → Option ℕ

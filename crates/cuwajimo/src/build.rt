@@ -5,7 +5,7 @@ ghost use Rattle.cuwajimo.specs.Plans.{first_set, FillAdded};
 use super::line::Line;
 use super::plan::{Fill, Plan, Source};
 use super::trouble::{Spot, Trouble};
-use super::words::{byte, is_number, number};
+use super::words::is_number;
 use flex::geometry::Geometry;
 use flex::unit::Unit;
 use layer::run::Run;
@@ -41,12 +41,9 @@ fn raw(line: Line<'_>) -> Result<Source, Trouble> {
 }
 
 fn raw_in_memory(line: Line<'_>) -> Result<Source, Trouble> {
-    let tracks = line.number(1)?;
+    let tracks = line.number::<u32>(1)?;
     let records = line.number(2)?;
-    let mut spares = Vec::new(line.spot.heap);
-    for place in line.text.split_whitespace().skip(3) {
-        spares.push(byte(line.spot, Some(place))?)?;
-    }
+    let spares = line.numbers(3)?;
     if spares.len() != tracks as usize {
         return Err(
             line.spot
@@ -56,16 +53,8 @@ fn raw_in_memory(line: Line<'_>) -> Result<Source, Trouble> {
     Ok(Source::Raw { records, spares })
 }
 
-/// `damage B ..`
-fn damage(line: Line<'_>) -> Result<Fill, Trouble> {
-    let mut blocks = Vec::new(line.spot.heap);
-    for block in line.text.split_whitespace().skip(1) {
-        blocks.push(number(line.spot, Some(block))?)?;
-    }
-    Ok(Fill::Damage(blocks))
-}
-
-/// A layer's run, of which there is at most one.
+/// A layer's run, of which there is at most one. That a second is refused is said before its numbers are read, so it is not
+/// by `set_once`.
 fn run(line: Line<'_>, earlier: Option<Run>) -> Result<Option<Run>, Trouble> {
     if earlier.is_some() {
         return Err(line.spot.trouble("a second layer of one kind"));
@@ -81,9 +70,9 @@ fn unit(line: Line<'_>) -> Result<Unit, Trouble> {
     let unit = Unit {
         first: line.number(1)?,
         geometry: Geometry {
-            cylinders: line.short(2)?,
-            heads: line.byte(3)?,
-            sectors: line.byte(4)?,
+            cylinders: line.number(2)?,
+            heads: line.number(3)?,
+            sectors: line.number(4)?,
         },
     };
     line.end(5)?;
@@ -115,10 +104,6 @@ fn set_once<T: Drop>(
     Ok(())
 }
 
-fn set_source(line: Line<'_>, plan: &mut Plan, source: Source) -> Result<(), Trouble> {
-    set_once(line.spot, &mut plan.source, source, "a second image")
-}
-
 /// Adds what is to be done to the image, which stands before it.
 fn add_fill(spot: Spot, plan: &mut Plan, fill: Fill) -> Result<(), Trouble>
     ensures { FillAdded plan.old fill plan.new result }
@@ -130,41 +115,47 @@ fn add_fill(spot: Spot, plan: &mut Plan, fill: Fill) -> Result<(), Trouble>
     Ok(())
 }
 
-/// Adds what a building line says to the plan.
-pub(super) fn read(line: Line<'_>, plan: &mut Plan) -> Result<(), Trouble> {
-    match line.nth(0) {
-        Some("flat") => set_source(line, plan, flat(line)?),
-        Some("raw") => set_source(line, plan, raw(line)?),
-        Some("pattern") => add_fill(line.spot, plan, Fill::Pattern(single(line)?)),
-        Some("damage") => add_fill(line.spot, plan, damage(line)?),
-        _ => read_layer(line, plan),
-    }
-}
-
-fn read_layer(line: Line<'_>, plan: &mut Plan) -> Result<(), Trouble> {
-    match line.nth(0) {
-        Some("protect") => {
-            line.end(1)?;
-            plan.protection = Protection::Protected;
+impl Plan {
+    /// Adds what a building line says.
+    pub(super) fn read(&mut self, line: Line<'_>) -> Result<(), Trouble> {
+        match line.first() {
+            Some("flat") => self.set_source(line.spot, flat(line)?),
+            Some("raw") => self.set_source(line.spot, raw(line)?),
+            Some("pattern") => add_fill(line.spot, self, Fill::Pattern(single(line)?)),
+            Some("damage") => add_fill(line.spot, self, Fill::Damage(line.numbers(1)?)),
+            _ => self.read_layer(line),
         }
-        Some("window") => plan.window = run(line, plan.window)?,
-        Some("guard") => plan.guard = run(line, plan.guard)?,
-        Some("cache") => {
-            line.end(1)?;
-            plan.cache = true;
-        }
-        _ => return read_map(line, plan),
     }
-    Ok(())
-}
 
-fn read_map(line: Line<'_>, plan: &mut Plan) -> Result<(), Trouble> {
-    match line.nth(0) {
-        Some("unit") => plan.units.push(unit(line)?)?,
-        Some("end") => plan.end = single(line)?,
-        Some("device") => plan.device = single(line)?,
-        Some(other) => return Err(line.spot.about("unknown word", other)),
-        None => {}
+    fn set_source(&mut self, spot: Spot, source: Source) -> Result<(), Trouble> {
+        set_once(spot, &mut self.source, source, "a second image")
     }
-    Ok(())
+
+    fn read_layer(&mut self, line: Line<'_>) -> Result<(), Trouble> {
+        match line.first() {
+            Some("protect") => {
+                line.end(1)?;
+                self.protection = Protection::Protected;
+            }
+            Some("window") => self.window = run(line, self.window)?,
+            Some("guard") => self.guard = run(line, self.guard)?,
+            Some("cache") => {
+                line.end(1)?;
+                self.cache = true;
+            }
+            _ => return self.read_map(line),
+        }
+        Ok(())
+    }
+
+    fn read_map(&mut self, line: Line<'_>) -> Result<(), Trouble> {
+        match line.first() {
+            Some("unit") => self.units.push(unit(line)?)?,
+            Some("end") => self.end = single(line)?,
+            Some("device") => self.device = single(line)?,
+            Some(other) => return Err(line.spot.about("unknown word", other)),
+            None => {}
+        }
+        Ok(())
+    }
 }

@@ -1,8 +1,9 @@
-ghost use Rattle.std.specs.Prelude.{◌≡◌};
+ghost use Rattle.std.specs.Prelude.{◌≡◌, Some};
 ghost use Rattle.cuwajimo.specs.Calls.{host_act_name, act_name, is_off_act};
 
 use super::line::Line;
 use super::trouble::Trouble;
+use std::fmt;
 
 /// The bytes that a buffer is made of: so many, these over and over, or zero if there are none.
 #[derive(Drop)]
@@ -42,12 +43,12 @@ pub struct Call {
     pub act: Act,
 }
 
-impl HostAct {
-    /// The word that its line begins with.
-    fn name(&self) -> &'static str
-        ensures { result.now ≡ host_act_name self.now }
-    {
-        match self {
+/// The word that its line begins with.
+impl fmt::Display for HostAct {
+    ghost output = { λ act. Some (host_act_name act) };
+
+    fn fmt<W: fmt::Write>(&self, f: &mut fmt::Formatter<W>) -> fmt::Result {
+        f.write_str(match self {
             HostAct::Command(_) => "command",
             HostAct::Segment(_) => "segment",
             HostAct::Report(_) => "report",
@@ -56,25 +57,27 @@ impl HostAct {
             HostAct::Notice => "notice",
             HostAct::Fault => "fault",
             HostAct::Params => "params",
+        })
+    }
+}
+
+/// The word that its line begins with.
+impl fmt::Display for Act {
+    ghost output = { λ act. Some (act_name act) };
+
+    fn fmt<W: fmt::Write>(&self, f: &mut fmt::Formatter<W>) -> fmt::Result {
+        match self {
+            Act::Host { host: _, act } => act.fmt(f),
+            Act::Locks => f.write_str("locks"),
+            Act::Activity => f.write_str("activity"),
+            Act::Off => f.write_str("off"),
+            Act::Blocks { first: _, count: _ } => f.write_str("blocks"),
+            Act::Save => f.write_str("save"),
         }
     }
 }
 
 impl Act {
-    /// The word that its line begins with.
-    pub(super) fn name(&self) -> &'static str
-        ensures { result.now ≡ act_name self.now }
-    {
-        match self {
-            Act::Host { host: _, act } => act.name(),
-            Act::Locks => "locks",
-            Act::Activity => "activity",
-            Act::Off => "off",
-            Act::Blocks { first: _, count: _ } => "blocks",
-            Act::Save => "save",
-        }
-    }
-
     /// Whether it powers the device off.
     pub(super) fn is_off(&self) -> bool
         ensures { result ≡ is_off_act self.now }
@@ -99,7 +102,7 @@ fn alone<T: Drop>(line: Line<'_>, words: usize, act: T) -> Result<Option<T>, Tro
 
 /// What a line asks for its host, or none where its first word is no such call's.
 fn host_act(line: Line<'_>) -> Result<Option<HostAct>, Trouble> {
-    match line.nth(0) {
+    match line.first() {
         Some("command") => Ok(Some(HostAct::Command(line.hex(2)?))),
         Some("segment") => Ok(Some(HostAct::Segment(size_and_hex(line)?))),
         Some("report") => Ok(Some(HostAct::Report(size_and_hex(line)?))),
@@ -114,7 +117,7 @@ fn host_act(line: Line<'_>) -> Result<Option<HostAct>, Trouble> {
 
 /// A call of no host, or none.
 fn common_act(line: Line<'_>) -> Result<Option<Act>, Trouble> {
-    match line.nth(0) {
+    match line.first() {
         Some("locks") => alone(line, 1, Act::Locks),
         Some("activity") => alone(line, 1, Act::Activity),
         Some("off") => alone(line, 1, Act::Off),
@@ -135,7 +138,7 @@ fn blocks(line: Line<'_>) -> Result<Option<Act>, Trouble> {
 pub(super) fn read_call(line: Line<'_>) -> Result<Option<Call>, Trouble> {
     let act = match host_act(line)? {
         Some(act) => Some(Act::Host {
-            host: line.byte(1)?,
+            host: line.number(1)?,
             act,
         }),
         None => common_act(line)?,

@@ -48,3 +48,10 @@ impl Case {
         Ok(())
     }
 }
+
+/// A case that is carried out, and the runtime to read, print and write by.
+#[derive(Clone, Copy)]
+pub struct CaseRun<'a> {
+    pub(super) rt: &'a HostRuntime,
+    pub(super) case: &'a Case,
+}

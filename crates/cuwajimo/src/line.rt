@@ -1,6 +1,6 @@
 use super::files::ImageFile;
 use super::trouble::{Spot, Trouble};
-use super::words::{add_hex, byte, end, number, short, word};
+use super::words::{Numeral, Word, add_hex};
 
 /// A line of the script: where it stands, and what it says apart from its comment.
 #[derive(Clone, Copy)]
@@ -10,29 +10,27 @@ pub struct Line<'a> {
 }
 
 impl<'a> Line<'a> {
-    /// The word after so many, if there is one.
-    pub(super) fn nth(self, before: usize) -> Option<&'a str> {
-        self.text.split_whitespace().skip(before).next()
+    /// The word after so many.
+    fn nth(self, before: usize) -> Word<'a> {
+        Word {
+            spot: self.spot,
+            text: self.text.split_whitespace().skip(before).next(),
+        }
+    }
+
+    /// The first word, which says what the line is.
+    pub(super) fn first(self) -> Option<&'a str> {
+        self.nth(0).text
     }
 
     /// The word after so many, which has to be there.
     pub(super) fn word(self, before: usize) -> Result<&'a str, Trouble> {
-        word(self.spot, self.nth(before))
+        self.nth(before).required()
     }
 
     /// It as a decimal number.
-    pub(super) fn number(self, before: usize) -> Result<u32, Trouble> {
-        number(self.spot, self.nth(before))
-    }
-
-    /// It as a decimal number of two bytes.
-    pub(super) fn short(self, before: usize) -> Result<u16, Trouble> {
-        short(self.spot, self.nth(before))
-    }
-
-    /// It as a decimal number of one byte.
-    pub(super) fn byte(self, before: usize) -> Result<u8, Trouble> {
-        byte(self.spot, self.nth(before))
+    pub(super) fn number<T: Numeral>(self, before: usize) -> Result<T, Trouble> {
+        self.nth(before).number()
     }
 
     /// It as the name of a file.
@@ -42,6 +40,19 @@ impl<'a> Line<'a> {
             line: self.spot.line,
             path,
         })
+    }
+
+    /// The decimal numbers that stand after so many words.
+    pub(super) fn numbers<T: Numeral>(self, before: usize) -> Result<Vec<T>, Trouble> {
+        let mut numbers = Vec::new(self.spot.heap);
+        for text in self.text.split_whitespace().skip(before) {
+            let word = Word {
+                spot: self.spot,
+                text: Some(text),
+            };
+            numbers.push(word.number::<T>()?)?;
+        }
+        Ok(numbers)
     }
 
     /// The bytes that stand in hexadecimal digits after so many words.
@@ -55,6 +66,6 @@ impl<'a> Line<'a> {
 
     /// Nothing more may stand after so many words.
     pub(super) fn end(self, before: usize) -> Result<(), Trouble> {
-        end(self.spot, self.nth(before))
+        self.nth(before).absent()
     }
 }

@@ -3,12 +3,12 @@ ghost use Rattle.layer.specs.Guards.{guarded};
 ghost use Rattle.layer.specs.Windows.{windowed};
 ghost use Rattle.cuwajimo.specs.Plans.{layers, NoLayer};
 
-use super::case::Case;
+use super::case::CaseRun;
 use super::fill::Mark;
 use super::fnv::fnv1a;
 use super::medium::{Medium, OnImage};
 use super::plan::Plan;
-use super::session::{Ended, Outcome, serve};
+use super::session::{Ended, Outcome};
 use super::trouble::Trouble;
 use cache::cache::Cache;
 use layer::guard::WriteGuard;
@@ -56,7 +56,7 @@ fn show_blocks<S: Store>(
 
 /// What is done with a pile while it stands. The pile is handed back.
 pub(super) trait Job {
-    fn perform<S: Store>(&self, rt: &HostRuntime, case: &Case, store: S) -> Ended<S>;
+    fn perform<S: Store>(&self, run: CaseRun<'_>, store: S) -> Ended<S>;
 }
 
 /// A device over the pile answers the calls before `off`.
@@ -64,8 +64,8 @@ pub(super) trait Job {
 pub(super) struct Serve;
 
 impl Job for Serve {
-    fn perform<S: Store>(&self, rt: &HostRuntime, case: &Case, store: S) -> Ended<S> {
-        serve(rt, case, store)
+    fn perform<S: Store>(&self, run: CaseRun<'_>, store: S) -> Ended<S> {
+        run.serve(store)
     }
 }
 
@@ -77,8 +77,8 @@ pub(super) struct Show {
 }
 
 impl Job for Show {
-    fn perform<S: Store>(&self, rt: &HostRuntime, _case: &Case, mut store: S) -> Ended<S> {
-        let shown = show_blocks(rt, &mut store, self.first, self.count);
+    fn perform<S: Store>(&self, run: CaseRun<'_>, mut store: S) -> Ended<S> {
+        let shown = show_blocks(run.rt, &mut store, self.first, self.count);
         Ended {
             store,
             outcome: shown.map(|_| Outcome::Served),
@@ -94,11 +94,10 @@ fn layered<S: Store>(plan: &Plan, image: S) -> WriteGuard<Window<S>>
     WriteGuard::new(Window::new(image, plan.shown()), plan.guarded())
 }
 
-/// A job on the plan's whole pile over an image: window, write guard and, if it asks for one, a cache.
+/// A job on the case's whole pile over an image: window, write guard and, if its plan asks for one, a cache.
 #[derive(Drop)]
 struct OverImage<'a, J> {
-    rt: &'a HostRuntime,
-    case: &'a Case,
+    run: CaseRun<'a>,
     job: J,
 }
 
@@ -106,30 +105,32 @@ impl<J: Job + Drop> OnImage for OverImage<'_, J> {
     type Done = Result<Outcome, Trouble>;
 
     fn perform<S: Mark + Drop>(self, image: S) -> Result<Outcome, Trouble> {
-        let below = layered(&self.case.plan, image);
-        if !self.case.plan.cache {
-            let Ended { store, outcome } = self.job.perform(self.rt, self.case, below);
+        let plan = &self.run.case.plan;
+        let below = layered(plan, image);
+        if !plan.cache {
+            let Ended { store, outcome } = self.job.perform(self.run, below);
             drop(store);
             return outcome;
         }
-        let Ended { store, outcome } = self.job.perform(self.rt, self.case, Cache::new(below));
+        let Ended { store, outcome } = self.job.perform(self.run, Cache::new(below));
         drop(store.release());
         outcome
     }
 }
 
-/// Does a job on the pile that the plan asks for, or says why its image is refused.
-pub(super) fn on_pile<J: Job + Drop>(
-    rt: &HostRuntime,
-    case: &Case,
-    medium: &mut Medium,
-    job: J,
-) -> Result<Outcome, Trouble> {
-    match medium.open(case.plan.protection, OverImage { rt, case, job }) {
-        Ok(outcome) => outcome,
-        Err(refusal) => {
-            println!(rt; "image: refused {refusal}")?;
-            Ok(Outcome::Refused)
+impl CaseRun<'_> {
+    /// Does a job on the pile that the plan asks for, or says why its image is refused.
+    pub(super) fn on_pile<J: Job + Drop>(
+        self,
+        medium: &mut Medium,
+        job: J,
+    ) -> Result<Outcome, Trouble> {
+        match medium.open(self.case.plan.protection, OverImage { run: self, job }) {
+            Ok(outcome) => outcome,
+            Err(refusal) => {
+                println!(self.rt; "image: refused {refusal}")?;
+                Ok(Outcome::Refused)
+            }
         }
     }
 }

@@ -1,8 +1,8 @@
 use super::call::{Act, Call};
-use super::case::Case;
+use super::case::{Case, CaseRun};
 use super::fill::prepare;
 use super::medium::{Medium, load};
-use super::pile::{Serve, Show, on_pile};
+use super::pile::{Serve, Show};
 use super::plan::Source;
 use super::say;
 use super::session::Outcome;
@@ -12,19 +12,19 @@ use super::trouble::{Spot, Trouble};
 pub(super) fn check_files(rt: &HostRuntime, cases: &[Case]) -> Result<(), Trouble> {
     for case in cases {
         match &case.plan.source {
-            Some(Source::FlatFiles { bytes, damage: map }) => {
-                bytes.check(rt)?;
-                map.check(rt)?;
-            }
             Some(
-                Source::RawFiles {
+                Source::FlatFiles {
                     bytes,
-                    spares,
+                    damage: beside,
+                }
+                | Source::RawFiles {
+                    bytes,
+                    spares: beside,
                     records: _,
                 },
             ) => {
                 bytes.check(rt)?;
-                spares.check(rt)?;
+                beside.check(rt)?;
             }
             _ => {}
         }
@@ -66,74 +66,67 @@ fn save(rt: &HostRuntime, line: u32, source: &Source, medium: &Medium) -> Result
     Ok(())
 }
 
-/// One call after the device is off.
-fn answer_off(
-    rt: &HostRuntime,
-    case: &Case,
-    source: &Source,
-    medium: &mut Medium,
-    call: &Call,
-) -> Result<(), Trouble> {
-    match &call.act {
-        Act::Blocks { first, count } => {
-            let first = *first;
-            let count = *count;
-            on_pile(rt, case, medium, Show { first, count })?;
-            Ok(())
+impl CaseRun<'_> {
+    /// One call after the device is off.
+    fn answer_off(self, source: &Source, medium: &mut Medium, call: &Call) -> Result<(), Trouble> {
+        match &call.act {
+            Act::Blocks { first, count } => {
+                let first = *first;
+                let count = *count;
+                self.on_pile(medium, Show { first, count })?;
+                Ok(())
+            }
+            Act::Save => save(self.rt, call.line, source, medium),
+            act => say::nothing(self.rt, act),
         }
-        Act::Save => save(rt, call.line, source, medium),
-        act => say::nothing(rt, act),
     }
-}
 
-/// The calls from the first `off` on, of a case that had a device.
-fn finish(
-    rt: &HostRuntime,
-    case: &Case,
-    source: &Source,
-    medium: &mut Medium,
-) -> Result<(), Trouble> {
-    if !case.off.is_empty() {
-        println!(rt; "off: settled")?;
+    /// The calls from the first `off` on, of a case that had a device.
+    fn finish(self, source: &Source, medium: &mut Medium) -> Result<(), Trouble> {
+        if !self.case.off.is_empty() {
+            println!(self.rt; "off: settled")?;
+        }
+        for call in self.case.off.iter().skip(1) {
+            self.answer_off(source, medium, call)?;
+        }
+        Ok(())
     }
-    for call in case.off.iter().skip(1) {
-        answer_off(rt, case, source, medium, call)?;
-    }
-    Ok(())
-}
 
-/// The calls of a case that has no device.
-fn decline(rt: &HostRuntime, case: &Case) -> Result<(), Trouble> {
-    for call in case.on.iter().chain(case.off.iter()) {
-        say::nothing(rt, &call.act)?;
+    /// The calls of a case that has no device.
+    fn decline(self) -> Result<(), Trouble> {
+        for call in self.case.on.iter().chain(self.case.off.iter()) {
+            say::nothing(self.rt, &call.act)?;
+        }
+        Ok(())
     }
-    Ok(())
-}
 
-/// Carries out a case, if it has any call.
-fn run_case(rt: &HostRuntime, case: &Case) -> Result<(), Trouble> {
-    let Some(first) = case.first() else {
-        return Ok(());
-    };
-    let Some(source) = &case.plan.source else {
-        return Err(Spot {
-            heap: rt.alloc(),
+    /// Carries the case out, if it has any call.
+    fn run(self) -> Result<(), Trouble> {
+        let Some(first) = self.case.first() else {
+            return Ok(());
+        };
+        let spot = Spot {
+            heap: self.rt.alloc(),
             line: first.line,
+        };
+        let plan = &self.case.plan;
+        let source = plan
+            .source
+            .as_ref()
+            .ok_or_else(|| spot.trouble("a call, and no image to make it on"))?;
+        let mut medium = load(self.rt, source)?;
+        prepare(&mut medium, plan.fills.as_slice());
+        match self.on_pile(&mut medium, Serve)? {
+            Outcome::Served => self.finish(source, &mut medium),
+            Outcome::Refused => self.decline(),
         }
-        .trouble("a call, and no image to make it on"));
-    };
-    let mut medium = load(rt, source)?;
-    prepare(&mut medium, case.plan.fills.as_slice());
-    match on_pile(rt, case, &mut medium, Serve)? {
-        Outcome::Served => finish(rt, case, source, &mut medium),
-        Outcome::Refused => decline(rt, case),
     }
 }
 
 /// Carries out each case in turn.
 pub(super) fn run(rt: &HostRuntime, cases: &[Case]) -> Result<(), Trouble> {
     for case in cases {
-        run_case(rt, case)?;
+        CaseRun { rt, case }.run()?;
     }
     Ok(())
 }

@@ -123,13 +123,10 @@ enum Lock {
 fn has<S: Store>(device: &Device<S>, host: u8, lock: Lock) -> bool
     ensures { result ≡ holds device.now.controller lock host }
 {
-    match device.locks(host) {
-        Ok(locks) => match lock {
-            Lock::Device => locks.device,
-            Lock::Unit(unit) => locks.has_unit(unit),
-        },
-        Err(_) => false,
-    }
+    device.locks(host).is_ok_and(|locks| match lock {
+        Lock::Device => locks.device,
+        Lock::Unit(unit) => locks.has_unit(unit),
+    })
 }
 
 /// The first host that holds a lock; no two do.
@@ -162,10 +159,9 @@ pub(super) fn locks<S: Store>(rt: &HostRuntime, device: &Device<S>) -> Result<()
 
 /// What a call prints for which there is no device, or no store.
 pub(super) fn nothing(rt: &HostRuntime, act: &Act) -> Result<(), Trouble> {
-    let name = act.name();
     match act {
-        Act::Blocks { first: _, count: _ } | Act::Save => println!(rt; "{name}: no store")?,
-        _ => println!(rt; "{name}: no device")?,
+        Act::Blocks { first: _, count: _ } | Act::Save => println!(rt; "{act}: no store")?,
+        _ => println!(rt; "{act}: no device")?,
     }
     Ok(())
 }

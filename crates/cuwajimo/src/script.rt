@@ -1,7 +1,6 @@
 ghost use Rattle.std.specs.Prelude.{◌≡◌};
 ghost use Rattle.cuwajimo.specs.Lines.{before_comment};
 
-use super::build;
 use super::call::read_call;
 use super::case::Case;
 use super::line::Line;
@@ -12,17 +11,17 @@ use std::alloc::Global;
 fn statement(line: &str) -> &str
     ensures { result.now ≡ before_comment line.now }
 {
-    match line.split_once('#') {
-        Some((before, _)) => before,
-        None => line,
-    }
+    let Some((before, _)) = line.split_once('#') else {
+        return line;
+    };
+    before
 }
 
 /// Adds what one line says to the case that is being read.
 fn read_line(line: Line<'_>, case: &mut Case) -> Result<(), Trouble> {
     match read_call(line)? {
         Some(call) => case.add(call),
-        None if case.first().is_none() => build::read(line, &mut case.plan),
+        None if case.first().is_none() => case.plan.read(line),
         None => Err(
             line.spot.about(
                 "no call, and what builds stands before the first call:",
@@ -36,7 +35,7 @@ fn read_line(line: Line<'_>, case: &mut Case) -> Result<(), Trouble> {
 pub(super) fn cases(heap: Global, text: &str) -> Result<Vec<Case>, Trouble> {
     let mut cases = Vec::new(heap);
     let mut case = Case::new(heap);
-    // counted by hand, since the numbers of a text of more lines than they count stay at the largest
+    // counted by hand: by `enumerate` each number would be one less, of another width, and turned by two more calls
     let mut line = 0u32;
     for whole in text.lines() {
         line = line.saturating_add(1);

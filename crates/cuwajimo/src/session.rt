@@ -4,7 +4,7 @@ ghost use Rattle.device.specs.Device.{state, after};
 
 use super::buffer::buffer;
 use super::call::{Act, Call, Filling, HostAct};
-use super::case::Case;
+use super::case::{Case, CaseRun};
 use super::desk::Desk;
 use super::say;
 use super::trouble::Trouble;
@@ -68,6 +68,7 @@ impl<S: Store> Session<'_, S> {
         }
     }
 
+    // A call of its own and not one text with `segment`: the ticket that it takes, the call and what comes back all differ.
     fn report(&mut self, host: u8, filling: &Filling) -> Result<(), Trouble> {
         let mut buffer = buffer(self.rt.alloc(), filling)?;
         match self.desk.take(host) {
@@ -213,32 +214,35 @@ impl<S: Store> Session<'_, S> {
     }
 }
 
-/// Powers the device on over the store, answers the calls, and powers it off.
-fn serve_on<S: Store>(rt: &HostRuntime, case: &Case, map: UnitMap, store: S) -> Ended<S> {
-    let mut session = Session {
-        rt,
-        device: power_on(case.plan.device, map, store),
-        desk: Desk::new(),
-    };
-    let outcome = session.run(case);
-    Ended {
-        store: session.close(),
-        outcome,
+impl CaseRun<'_> {
+    /// Powers the device on over the store, answers the calls, and powers it off.
+    fn serve_on<S: Store>(self, map: UnitMap, store: S) -> Ended<S> {
+        let mut session = Session {
+            rt: self.rt,
+            device: power_on(self.case.plan.device, map, store),
+            desk: Desk::new(),
+        };
+        let outcome = session.run(self.case);
+        Ended {
+            store: session.close(),
+            outcome,
+        }
     }
-}
 
-fn refuse(rt: &HostRuntime, status: Status) -> Result<Outcome, Trouble> {
-    println!(rt; "map: refused {status}")?;
-    Ok(Outcome::Refused)
-}
+    fn refuse(self, status: Status) -> Result<Outcome, Trouble> {
+        println!(self.rt; "map: refused {status}")?;
+        Ok(Outcome::Refused)
+    }
 
-/// A case's calls before `off`, on a device over the store if its units make a map.
-pub(super) fn serve<S: Store>(rt: &HostRuntime, case: &Case, store: S) -> Ended<S> {
-    match UnitMap::new(case.plan.units.as_slice(), case.plan.end) {
-        Ok(map) => serve_on(rt, case, map, store),
-        Err(status) => Ended {
-            store,
-            outcome: refuse(rt, status),
-        },
+    /// The case's calls before `off`, on a device over the store if its units make a map.
+    pub(super) fn serve<S: Store>(self, store: S) -> Ended<S> {
+        let plan = &self.case.plan;
+        match UnitMap::new(plan.units.as_slice(), plan.end) {
+            Ok(map) => self.serve_on(map, store),
+            Err(status) => Ended {
+                store,
+                outcome: self.refuse(status),
+            },
+        }
     }
 }

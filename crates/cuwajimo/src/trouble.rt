@@ -66,7 +66,7 @@ impl Spot {
                 line: self.line,
                 what,
             },
-            Err(_) => Trouble::Memory,
+            Err(e) => Trouble::from(e),
         }
     }
 

@@ -1,63 +1,95 @@
-ghost use Rattle.std.specs.Prelude.{◌≡◌, ◌^◌, not, is_some, is_ok};
+ghost use Rattle.std.specs.Prelude.{◌≡◌, ◌^◌, ℕ, List, Result, not, is_some, is_ok};
 ghost use Rattle.std.specs.Option.{option_map};
 ghost use Rattle.std.specs.Result.{result_ok};
+ghost use Rattle.cuwajimo.specs.Numerals.{read_below};
 ghost use Rattle.cuwajimo.specs.Troubles.{Blamed};
-ghost use Rattle.cuwajimo.specs.Words.{ReadBy, number_below, number_in, hex_digit, HexAdded};
+ghost use Rattle.cuwajimo.specs.Words.{number_below, number_in, hex_digit, HexAdded};
 
 use super::trouble::{Spot, Trouble};
+use std::num::ParseIntError;
 use std::str::FromStr;
 
-/// A word that has to be there.
-pub(super) fn word<'a>(spot: Spot, next: Option<&'a str>) -> Result<&'a str, Trouble>
-    ensures value { option_map (λ x. x.now) (result_ok result) ≡ option_map (λ x. x.now) next.entry }
-    ensures line { Blamed spot.line result }
-{
-    next.ok_or_else(|| spot.trouble("a word is missing"))
+/// A number that a word may stand for, of the width that its field has.
+pub(super) trait Numeral: FromStr<Err = ParseIntError> + Drop {
+    // The number that a value is.
+    ghost number: { Self → ℕ };
+
+    // What each is below.
+    ghost limit: { ℕ };
+
+    /// What is said of a word that is no such number.
+    const REFUSAL: &'static str;
+
+    // A word is read as the decimal number that it writes, where that is below the limit.
+    ghost reads: { (word : List ℕ) (r : _) → Self.FromStr.from_str_gives word r → option_map number (result_ok r) ≡ number_below limit word };
 }
 
-/// A word that has to be there and to stand for a value of the type, or the trouble in these words.
-fn parsed<T: FromStr + Drop>(spot: Spot, next: Option<&str>, wanted: &str) -> Result<T, Trouble>
-where
-    T::Err: Drop,
-    ensures value { ReadBy T.from_str_gives (option_map (λ x. x.now) next.entry) result }
-    ensures line { Blamed spot.line result }
-{
-    let word = word(spot, next)?;
-    word.parse::<T>().map_err(|_| spot.about(wanted, word))
+impl Numeral for u32 {
+    ghost number = { λ n. n };
+
+    ghost limit = { 4294967296 };
+
+    const REFUSAL: &'static str = "not a number that fits:";
+
+    ghost reads = { λ word r h. read_below 32 word r h.0 };
 }
 
-/// A decimal number of four bytes.
-pub(super) fn number(spot: Spot, next: Option<&str>) -> Result<u32, Trouble>
-    ensures value { result_ok result ≡ number_in (2 ^ 32) (option_map (λ x. x.now) next.entry) }
-    ensures line { Blamed spot.line result }
-{
-    parsed(spot, next, "not a number that fits:")
+impl Numeral for u16 {
+    ghost number = { λ n. n };
+
+    ghost limit = { 65536 };
+
+    const REFUSAL: &'static str = "not a number from 0 to 65535:";
+
+    ghost reads = { λ word r h. read_below 16 word r h.0 };
 }
 
-/// A decimal number of two bytes.
-pub(super) fn short(spot: Spot, next: Option<&str>) -> Result<u16, Trouble>
-    ensures value { result_ok result ≡ number_in (2 ^ 16) (option_map (λ x. x.now) next.entry) }
-    ensures line { Blamed spot.line result }
-{
-    parsed(spot, next, "not a number from 0 to 65535:")
+impl Numeral for u8 {
+    ghost number = { λ n. n };
+
+    ghost limit = { 256 };
+
+    const REFUSAL: &'static str = "not a number from 0 to 255:";
+
+    ghost reads = { λ word r h. read_below 8 word r h.0 };
 }
 
-/// A decimal number of one byte.
-pub(super) fn byte(spot: Spot, next: Option<&str>) -> Result<u8, Trouble>
-    ensures value { result_ok result ≡ number_in (2 ^ 8) (option_map (λ x. x.now) next.entry) }
-    ensures line { Blamed spot.line result }
-{
-    parsed(spot, next, "not a number from 0 to 255:")
+/// A word of a line, or the place where none stands, and the line.
+#[derive(Clone, Copy)]
+pub struct Word<'a> {
+    pub(super) spot: Spot,
+    pub(super) text: Option<&'a str>,
 }
 
-/// Nothing more may stand on the line.
-pub(super) fn end(spot: Spot, next: Option<&str>) -> Result<(), Trouble>
-    ensures value { is_ok result ≡ not (is_some next.entry) }
-    ensures line { Blamed spot.line result }
-{
-    match next {
-        None => Ok(()),
-        Some(word) => Err(spot.about("a word too many:", word)),
+impl<'a> Word<'a> {
+    /// It has to be there.
+    pub(super) fn required(self) -> Result<&'a str, Trouble>
+        ensures value { option_map (λ x. x.now) (result_ok result) ≡ option_map (λ x. x.now) self.entry.text }
+        ensures line { Blamed self.entry.spot.line result }
+    {
+        self.text
+            .ok_or_else(|| self.spot.trouble("a word is missing"))
+    }
+
+    /// It has to be a decimal number of its field's width.
+    pub(super) fn number<T: Numeral>(self) -> Result<T, Trouble>
+        ensures value { option_map T.number (result_ok result) ≡ number_in T.limit (option_map (λ x. x.now) self.entry.text) }
+        ensures line { Blamed self.entry.spot.line result }
+    {
+        let word = self.required()?;
+        word.parse::<T>()
+            .map_err(|_| self.spot.about(T::REFUSAL, word))
+    }
+
+    /// It may not be there.
+    pub(super) fn absent(self) -> Result<(), Trouble>
+        ensures value { is_ok result ≡ not (is_some self.entry.text) }
+        ensures line { Blamed self.entry.spot.line result }
+    {
+        match self.text {
+            None => Ok(()),
+            Some(word) => Err(self.spot.about("a word too many:", word)),
+        }
     }
 }
 

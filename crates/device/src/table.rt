@@ -5,7 +5,7 @@ ghost use Rattle.device.specs.Callers.{known, answered, known_or, borne};
 ghost use Rattle.device.specs.Device.{known_at, with_host, with_activity, with_waits, gone_on};
 
 use super::caller::Caller;
-use super::controller::{Controller, HOSTS};
+use super::controller::Controller;
 use super::ticket::{Pass, Ticket};
 use flex::status::Status;
 use host::mail::settle;
@@ -19,15 +19,9 @@ impl Controller {
         ensures number { IfSome result (λ caller. caller.number ≡ number) }
     {
         let at = usize::from(number);
-        if at < HOSTS {
-            Some(Caller {
-                number,
-                host: self.hosts[at],
-                mail: self.mail[at],
-            })
-        } else {
-            None
-        }
+        let host = *self.hosts.get(at)?;
+        let mail = *self.mail.get(at)?;
+        Some(Caller { number, host, mail })
     }
 
     /// The host of that number; or 128/4, and every wait is judged.

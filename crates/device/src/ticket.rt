@@ -7,8 +7,8 @@ use flex::status::Status;
 use host::transaction::Phase;
 
 /// Permission for the segments of one transaction. Like every ticket it is spent by a call, and cannot be copied or let go.
-// It and `ReportTicket` are two types so that neither passes for the other; one type with a parameter for the phase would have
-// the same two fields, a third that holds nothing, and an alias for each: no plainer.
+// It and `ReportTicket` are two types so that neither passes for the other. One type with a parameter for the phase would
+// name the phase by a bool or a number, since a parameter is no enum, and have an alias for each: no plainer.
 pub struct ExecutionTicket {
     pub(super) device: u32,
     pub(super) host: u8,
