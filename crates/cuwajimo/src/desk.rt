@@ -18,12 +18,14 @@ impl Desk {
     pub(super) fn new() -> Desk
         ensures { result ≡ empty_desk }
     {
+        // written out, since a ticket's place cannot be copied
         Desk {
             slots: [None, None, None, None, None, None, None, None],
         }
     }
 
     /// Takes a host's ticket.
+    // By index, here and in `put`: of what `get_mut` lends, its contract does not say what the array is after.
     pub(super) fn take(&mut self, host: u8) -> Option<Ticket>
         ensures value { result ≡ held self.old host }
         ensures after { self.new ≡ with_slot self.old host None }

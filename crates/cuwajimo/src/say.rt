@@ -14,6 +14,9 @@ use message::parameters::Parameters;
 use store::store::Store;
 use transfer::report::REPORT_BYTES;
 
+// Each answer is one line, from the runtime to print by, the host and what the call came to. A type of the first two would
+// be made for one call each time: no plainer.
+
 /// `NAME H: refused 4/3`
 pub(super) fn refused(
     rt: &HostRuntime,

@@ -104,12 +104,8 @@ pub(super) fn is_number(word: &str) -> bool
 fn digit(letter: u8) -> Option<u8>
     ensures { result ≡ hex_digit letter }
 {
-    match letter {
-        b'0'..=b'9' => Some(letter - b'0'),
-        b'a'..=b'f' => Some(letter - b'a' + 10),
-        b'A'..=b'F' => Some(letter - b'A' + 10),
-        _ => None,
-    }
+    let digit = char::from(letter).to_digit(16)?;
+    Some(digit as u8)
 }
 
 /// Adds a word's bytes, two hexadecimal digits each.
