@@ -156,9 +156,7 @@ impl<S: Store> Store for Cache<S> {
         ensures held { held S.Store.blocks self.new ≡ after_read (held S.Store.blocks self.old) block buffer.old }
         ensures late { is_ok result ≡ true → is_open_at (slice_get (S.Store.blocks self.old.below) block) ≡ true → KeptLate (held S.Store.blocks self.old) (held S.Store.blocks self.new) block buffer.new }
     {
-        let Some(buffer) = buffer.as_mut_array() else {
-            return Err(FaultKind::Length.at(block));
-        };
+        let buffer = buffer.as_mut_array().ok_or(FaultKind::Length.at(block))?;
         if self.below.protection(block) != Ok(Protection::Open) {
             return self.below.read(block, buffer);
         }
@@ -175,9 +173,7 @@ impl<S: Store> Store for Cache<S> {
         ensures held { held S.Store.blocks self.new ≡ after_write (held S.Store.blocks self.old) block bytes.now }
         ensures late { is_ok result ≡ true → KeptLate (held S.Store.blocks self.old) (held S.Store.blocks self.new) block bytes.now }
     {
-        let Some(bytes) = bytes.as_array() else {
-            return Err(FaultKind::Length.at(block));
-        };
+        let bytes = bytes.as_array().ok_or(FaultKind::Length.at(block))?;
         self.below.protection(block)?.permit(block)?;
         self.keep(block, bytes);
         Ok(())

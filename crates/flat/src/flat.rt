@@ -13,8 +13,8 @@ use store::fault::{BLOCK_BYTES, FaultKind, Protection, StoreFault};
 use store::store::Store;
 
 /// Lent memory with block b at byte 256 x b, and a lent map of one bit a block.
-// One text for this and a raw image would be no plainer: only the five calls of `Store` are alike,
-// and each says of its own memory what is left there.
+// One text for this and a raw image would be no plainer: each call's contract says what its own memory holds after,
+// and a trait of the layout would have to carry all of that, for texts of a few lines.
 #[derive(Drop)]
 pub struct FlatImage<'a> {
     bytes: &'a mut [u8],
@@ -27,15 +27,10 @@ pub fn flat_count(bytes: usize, damage: usize) -> Option<u32>
     ensures { result ≡ flat_count bytes damage }
 {
     let blocks = bytes / BLOCK_BYTES;
-    if bytes % BLOCK_BYTES == 0
+    let fits = bytes % BLOCK_BYTES == 0
         && blocks <= BLOCK_LIMIT
-        && damage == blocks.div_ceil(MARKS_A_BYTE)
-    {
-        // not `then_some`, which would make the cast of any number
-        Some(blocks as u32)
-    } else {
-        None
-    }
+        && damage == blocks.div_ceil(MARKS_A_BYTE);
+    fits.then(|| blocks as u32)
 }
 
 impl<'a> FlatImage<'a> {

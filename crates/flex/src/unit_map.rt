@@ -16,7 +16,8 @@ pub const CONTROLLER: u8 = 15;
 #[derive(Clone, Copy)]
 pub struct UnitMap {
     units: [Unit; UNITS],
-    // The device has no heap, so the units are an array with their count beside it.
+    // An array with its count beside it: the device has no heap, and the kit's ArrayVec is not Copy, which a map is
+    // for its callers.
     count: u8,
     end: u32,
     ghost full: { length units ≡ 15 },

@@ -76,7 +76,7 @@ impl Host {
     fn has_taken(&self, unit: u8) -> bool
         ensures { result ≡ has_taken self.now unit }
     {
-        self.locks.device || self.locks.has_unit(unit) || self.is_on(unit)
+        self.has_locked(unit) || self.is_on(unit)
     }
 
     /// Whether it stands in the way of what another host asks for.
@@ -171,12 +171,11 @@ impl Host {
 fn on_its_unit(message: Message) -> Result<Message, Status>
     ensures { result ≡ on_its_unit (Ok message) }
 {
-    match message.command {
-        Some(command) if command.on_unit() && message.parameters.unit == CONTROLLER => {
-            Err(Status::ModuleAddressing)
-        }
-        _ => Ok(message),
+    let on_unit = message.command.is_some_and(|command| command.on_unit());
+    if on_unit && message.parameters.unit == CONTROLLER {
+        return Err(Status::ModuleAddressing);
     }
+    Ok(message)
 }
 
 /// Whether a host other than the one at that place stands in the way of what that one asks for.

@@ -48,12 +48,8 @@ pub fn raw_count(bytes: usize, tracks: usize, records: u32) -> Option<u32>
     }
     let records = records as usize;
     let blocks = tracks * (records - 1);
-    if bytes == RECORD_BYTES * (records * tracks) && blocks <= BLOCK_LIMIT {
-        // not `then_some`, which would make the cast of any number
-        Some(blocks as u32)
-    } else {
-        None
-    }
+    let fits = bytes == RECORD_BYTES * (records * tracks) && blocks <= BLOCK_LIMIT;
+    fits.then(|| blocks as u32)
 }
 
 impl<'a> RawImage<'a> {

@@ -9,22 +9,13 @@ use store::store::Store;
 
 /// A cache may not be let go, so what is asked of one is worked out first and checked once it is released.
 fn keeps_all<S: Store>(cache: &Cache<S>, first: u32, last: u32) -> bool {
-    for block in first..last {
-        if !cache.keeps(block) {
-            return false;
-        }
-    }
-    true
+    (first..last).all(|block| cache.keeps(block))
 }
 
 /// Eight blocks are kept and nothing is below; the ninth makes one give way, and only that one is written.
 fn ninth_gives_way(cache: &mut Cache<FlatImage<'_>>) -> bool {
-    for block in 0..8u32 {
-        if !writes(cache, block, 5) {
-            return false;
-        }
-    }
-    let eight = keeps_all(cache, 0, 8)
+    let eight = (0..8u32).all(|block| writes(cache, block, 5))
+        && keeps_all(cache, 0, 8)
         && has(cache.below().bytes(), 0, 1)
         && has(cache.below().bytes(), 2047, 1);
     let again = writes(cache, 7, 6)

@@ -29,6 +29,8 @@ impl Span {
     }
 
     /// The host's fault where the store refuses block k.
+    // That k is below the count is asked by three functions and is no type of its own: k counts the turns of a loop,
+    // and a type for it would be made anew at each turn.
     fn fault(&self, k: u32, fault: StoreFault) -> HostFault
         requires { k < segment_of self.now.transaction }
         ensures { result ≡ record { fault = record { store = fault }; unit = self.now.transaction.unit; address = self.now.transaction.at + k } }

@@ -70,10 +70,9 @@ impl UnitMap {
     pub fn geometry(&self, number: u8) -> Option<Geometry>
         ensures { result ≡ geometry_at self.now number }
     {
-        match self.unit(number) {
-            Some(unit) => Some(unit.geometry),
-            None => (number == CONTROLLER).then_some(NO_PLACES),
-        }
+        self.unit(number)
+            .map(|unit| unit.geometry)
+            .or((number == CONTROLLER).then_some(NO_PLACES))
     }
 
     /// The block of the store at an address of a unit, or none.
@@ -81,9 +80,7 @@ impl UnitMap {
         ensures is { result ≡ block_at self.now number address }
         ensures law { Named self.now }
     {
-        match self.unit(number) {
-            Some(unit) if address < unit.geometry.size() => Some(unit.first + address),
-            _ => None,
-        }
+        let unit = self.unit(number)?;
+        (address < unit.geometry.size()).then(|| unit.first + address)
     }
 }

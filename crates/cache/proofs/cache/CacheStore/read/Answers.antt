@@ -14,7 +14,7 @@ returns-then-ne g c =
     let h = held g.S.Store.blocks s in
     let b = c.args.block in
     let buffer = c.args.buffer.now in
-    let lent = c.in-Some.ensures.cases.same in
+    let lent : c.in_ok-buffer.buffer.now ≡ c.args.buffer.now = search rules in
     let shut : is_open_at (slice_get bs b) ≡ false = not-true _ (sym (compared_open _ _ refl refl (slice_get bs b) b) ∙ sym (rw c.protection.ensures at c.ne.ensures) ∙ c.if-ne.true) in
     let alike = same_read bs (means h) b buffer (sym (shut_same bs s.slots b shut)) in
     record {
@@ -27,22 +27,23 @@ returns-then-ne g c =
       late = λ _ free. absurd (false≢true (sym shut ∙ free));
     }
 
-pub returns-in-Some-find : goal.returns-in-Some-find
-returns-in-Some-find g c =
+pub returns-in-Some : goal.returns-in-Some
+returns-in-Some g c =
     let s = c.args.self.now in
     let bs = g.S.Store.blocks s.below in
     let h = held g.S.Store.blocks s in
     let b = c.args.block in
-    let p = c.in-Some-find.place in
-    let bytes = (get_or c.args.self.now.slots c.in-Some-find.place no_slot).bytes in
+    let long : length c.args.buffer.now ≡ 256 = search rules in
+    let p = c.in-Some.place in
+    let bytes = (get_or c.args.self.now.slots c.in-Some.place no_slot).bytes in
     let buffer = c.args.buffer.now in
-    let lent = c.in-Some.ensures.cases.same in
-    let own = sym c.in-Some-find.ensures.place in
+    let lent : c.in_ok-buffer.buffer.now ≡ c.args.buffer.now = search rules in
+    let own = sym c.in-Some.ensures.place in
     let free : is_open_at (slice_get bs b) ≡ true = not-false _ (sym (compared_open _ _ refl refl (slice_get bs b) b) ∙ sym (rw c.protection.ensures at c.ne.ensures) ∙ c.if-ne.false) in
-    let whole : length (get_or c.args.self.now.slots c.in-Some-find.place no_slot).bytes ≡ 256 = search rules in
+    let whole : length (get_or c.args.self.now.slots c.in-Some.place no_slot).bytes ≡ 256 = search rules in
     let kept_here = first_kept s.slots b p (first_place s.slots (Some b) p own) in
     let here = open_kept bs s.slots b bytes free kept_here whole in
-    let got = open_read (means h) b buffer bytes c.in-Some.ensures.cases.long here in
+    let got = open_read (means h) b buffer bytes long here in
     record {
       answer = got.0;
       buffer = got.1;
@@ -57,9 +58,10 @@ returns g c =
     let bs = g.S.Store.blocks s.below in
     let h = held g.S.Store.blocks s in
     let b = c.args.block in
+    let long : length c.args.buffer.now ≡ 256 = search rules in
     let buffer = c.args.buffer.now in
-    let lent = c.in-Some.ensures.cases.same in
-    let missing = none_kept s.slots b (sym c.in_default-find.ensures.place) in
+    let lent : c.in_ok-buffer.buffer.now ≡ c.args.buffer.now = search rules in
+    let missing = none_kept s.slots b (sym c.in_default.ensures.place) in
     let free : is_open_at (slice_get bs b) ≡ true = not-false _ (sym (compared_open _ _ refl refl (slice_get bs b) b) ∙ sym (rw c.protection.ensures at c.ne.ensures) ∙ c.if-ne.false) in
     let alike = same_read bs (means h) b buffer (sym (unkept_same bs s.slots b missing)) in
     let answer = c.fetch.ensures.answer ∙ ap (read_answer bs b) lent ∙ alike.0 in
@@ -71,7 +73,7 @@ returns g c =
           c.fetch.ensures.after
           ∙ ap (λ r. cond (is_ok r) (written (means h) b c.fetch.new.buffer) (means h)) (c.fetch.ensures.answer ∙ ap (read_answer bs b) lent)
           ∙ ap (λ x. cond (is_ok (read_answer bs b buffer)) (written (means h) b x) (means h)) (c.fetch.ensures.buffer ∙ ap (read_buffer bs b) lent)
-          ∙ read_anew bs s.slots b buffer c.in-Some.ensures.cases.long free missing;
+          ∙ read_anew bs s.slots b buffer long free missing;
       held = c.fetch.ensures.held ∙ read_keeps h b buffer free c.fetch.result c.fetch.new.buffer answer got;
       late = λ ok _. c.fetch.ensures.late ok;
     }
