@@ -151,7 +151,7 @@ impl<S: Store> Device<S> {
     ) -> Result<(), Returned<ReportTicket>>
         ensures { (report_answer result buffer.new, state S.Store.blocks self.new) ≡ after (state S.Store.blocks self.old) (report ticket buffer.old) }
     {
-        let Some((caller, transaction)) = self.controller.fitting(ticket.pass()) else {
+        let Some((caller, open)) = self.controller.fitting(ticket.pass()) else {
             return Err(Returned {
                 status: Status::MessageSequence,
                 ticket,
@@ -164,7 +164,7 @@ impl<S: Store> Device<S> {
                 ticket,
             });
         }
-        buffer[0..REPORT_BYTES].copy_from_slice(&report_bytes(transaction.outcome));
+        buffer[0..REPORT_BYTES].copy_from_slice(&report_bytes(open.outcome));
         Ticket::Report(ticket).spend();
         self.controller.close(caller);
         Ok(())
