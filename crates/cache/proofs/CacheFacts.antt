@@ -1,9 +1,9 @@
 -- What a cache means, before and after a block is kept, given up or settled.
-use Rattle.std.proofs.Common.{◌≡◌, ℕ, zero, suc, ◌+◌, ◌≤◌, Bool, true, false, cond, not, ◌&&◌, eqb, List, [], ◌∷◌, map, length, get_or, drop, set, is_some, is_ok, Some, None, Ok, Err, Option, Result, sym, refl, ap, ◌∙◌, subst, inl, inr, arith}
+use Rattle.std.proofs.Common.{◌≡◌, ℕ, zero, suc, Bool, true, false, cond, not, ◌&&◌, eqb, List, [], ◌∷◌, map, length, get_or, set, is_some, is_ok, Some, None, Ok, Err, Option, Result, sym, refl, ap, ◌∙◌, inl, inr, arith}
 use Rattle.std.specs.List.{slice_get}
 use Rattle.std.specs.Option.{option_map}
 use Rattle.std.specs.Result.{result_eq}
-use Rattle.std.proofs.lemmas.List.{at_drop_more, drop_more, length-map, set-get_or}
+use Rattle.std.proofs.lemmas.List.{length-map, set-get_or}
 use Rattle.std.proofs.lemmas.Bool.{cases_Bool, cases_eq}
 use Rattle.store.specs.declared.fault.StoreFault.{StoreFault}
 use Rattle.store.specs.declared.fault.Protection.{Protection}
@@ -284,12 +284,3 @@ module _ (h : Held) (b : ℕ) (buffer : List ℕ) (free : is_open_at (slice_get 
       ap (λ x. cond (is_ok x) (keeping h b bytes) h) e
       ∙ ap (λ y. cond (is_ok (read_answer (means h) b buffer)) (keeping h b y) h) f
       ∙ sym (ap (λ t. cond (t && is_ok (read_answer (means h) b buffer)) (keeping h b (read_buffer (means h) b buffer)) h) free)
-
--- one more slot of a settling, from the last to the first
-pub put_more : (bs : List Block) (slots : List Slot) (p q : ℕ) → p ≡ q + 1 → p ≤ length slots → put_slot (put_all bs (drop p slots)) (get_or slots q no_slot).block (get_or slots q no_slot).bytes ≡ put_all bs (drop q slots)
-put_more bs slots p q e h =
-    ap (λ n. put_slot (put_all bs (drop n slots)) (get_or slots q no_slot).block (get_or slots q no_slot).bytes) e
-    ∙ sym (at_drop_more (λ l. put_all bs l) slots q no_slot (omega arith))
-
-pub whole_more : (slots : List Slot) (p q : ℕ) → p ≡ q + 1 → p ≤ length slots → WholeSlot (get_or slots q no_slot) → WholeSlots (drop p slots) → WholeSlots (drop q slots)
-whole_more slots p q e h w ws = subst WholeSlots (sym (drop_more slots q no_slot (omega arith))) (w, subst (λ n. WholeSlots (drop n slots)) e ws)

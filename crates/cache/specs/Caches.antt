@@ -171,9 +171,6 @@ abbrev pub put_slot : List Block → Option ℕ → List ℕ → List Block
 put_slot bs None bytes = bs
 put_slot bs (Some b) bytes = written bs b bytes
 
-abbrev pub written_back : Held → ℕ → Held
-written_back h p = record { slots = h.slots; below = put_slot h.below (slice_index_or h.slots p no_slot).block (slice_index_or h.slots p no_slot).bytes; turn = h.turn }
-
 -- What it holds after settling: every kept block is written below, and stays kept.
 abbrev pub after_settle : Held → Held
 after_settle h = record { slots = h.slots; below = means h; turn = h.turn }

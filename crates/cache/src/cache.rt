@@ -1,7 +1,7 @@
-ghost use Rattle.std.specs.Prelude.{◌≡◌, ◌<◌, true, is_some, is_ok, if◌then◌else◌, Some, slice_index_or};
+ghost use Rattle.std.specs.Prelude.{◌≡◌, ◌<◌, true, is_some, is_ok, if◌then◌else◌, Some};
 ghost use Rattle.store.specs.Blocks.{read_answer, read_buffer, write_answer, written};
 ghost use Rattle.std.specs.List.{slice_get};
-ghost use Rattle.cache.specs.Caches.{no_slot, WholeSlot, kept, vacant_slots, cached_by, cache_lawful, held, without_block, turn_place, giving_up, place_for, with_room, keeping, written_back, after_read, after_write, after_settle, is_open_at, KeptLate};
+ghost use Rattle.cache.specs.Caches.{kept, vacant_slots, cached_by, cache_lawful, held, without_block, turn_place, giving_up, place_for, with_room, keeping, after_read, after_write, after_settle, is_open_at, KeptLate};
 
 use super::slot::{Slot, find, forget};
 use store::fault::{BLOCK_BYTES, FaultKind, Protection, StoreFault};
@@ -123,17 +123,6 @@ impl<S: Store> Cache<S> {
         self.keep(block, buffer);
         Ok(())
     }
-
-    /// Writes what a slot keeps to the store below.
-    fn write_back(&mut self, place: usize)
-        requires { place < 8 }
-        ensures held { held S.Store.blocks self.new ≡ written_back (held S.Store.blocks self.old) place }
-        ensures whole { WholeSlot (slice_index_or self.old.slots place no_slot) }
-    {
-        if let Some(block) = self.slots[place].block {
-            let _ = self.below.write(block, &self.slots[place].bytes);
-        }
-    }
 }
 
 impl<S: Store> Store for Cache<S> {
@@ -188,8 +177,10 @@ impl<S: Store> Store for Cache<S> {
         ensures settled { S.Store.settled self.new.below × (S.Store.blocks self.new.below ≡ cached_by S.Store.blocks self.new) }
         ensures held { held S.Store.blocks self.new ≡ after_settle (held S.Store.blocks self.old) }
     {
-        for place in (0..SLOTS).rev() {
-            self.write_back(place);
+        for slot in self.slots.iter().rev() {
+            if let Some(block) = slot.block {
+                let _ = self.below.write(block, &slot.bytes);
+            }
         }
         self.below.settle()
     }
