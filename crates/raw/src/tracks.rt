@@ -7,6 +7,9 @@ pub(super) const RECORD_BYTES: usize = 276;
 /// The bytes of a record's header, before the data.
 pub(super) const HEADER_BYTES: usize = 6;
 
+// The spare places and the records of a track go together, as fields of the image: a type of the two would be made for
+// each of these calls, and be no plainer.
+
 /// The byte at which the record of a block begins.
 pub(super) fn record_start(spares: &[u8], records: usize, block: usize) -> usize
     requires least { 2 ≤ records }

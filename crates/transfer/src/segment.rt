@@ -90,6 +90,9 @@ fn holds_segment(transaction: Transaction, buffer: &[u8]) -> bool
         || BLOCK_BYTES * transaction.segment() as usize <= buffer.len()
 }
 
+// Map, transaction and buffer pass through three functions: a type of the three would be made for this one call, and be
+// no plainer.
+
 /// Lets a segment be moved, or tells why it is not.
 fn admit(map: &UnitMap, transaction: Transaction, buffer: &[u8]) -> Result<(), Status>
     ensures { result_err result ≡ refusal_of map.now transaction buffer.now }
