@@ -94,7 +94,7 @@ impl<S: Store> Cache<S> {
         ensures held { held S.Store.blocks self.new ≡ with_room (held S.Store.blocks self.old) block }
     {
         let own = find(&self.slots, Some(block));
-        // not `unwrap_or_else`: from it the proof learns nothing of `self` where no block is given up
+        // `unwrap_or_else` was tried: from it the proof learns nothing of `self` where no block is given up
         match own.or_else(|| find(&self.slots, None)) {
             Some(place) => place,
             None => self.give_up(),

@@ -4,8 +4,8 @@ ghost use Rattle.cache.specs.Caches.{slot, place, without, forgotten};
 use store::fault::BLOCK_BYTES;
 
 /// The place of one block in a cache: the block that it keeps, or none, and that block's bytes.
-// The bytes stand beside the block and not within its Option: the definitions say what the slots hold after each call,
-// the bytes of a vacant one too.
+// The bytes stand beside the block and not within its Option, which would be no plainer: the definitions say what the
+// slots hold after each call, the bytes of a vacant one too.
 #[derive(Clone, Copy)]
 pub(super) struct Slot {
     pub(super) block: Option<u32>,

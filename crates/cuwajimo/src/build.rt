@@ -53,8 +53,8 @@ fn raw_in_memory(line: Line<'_>) -> Result<Source, Trouble> {
     Ok(Source::Raw { records, spares })
 }
 
-/// A layer's run, of which there is at most one. That a second is refused is said before its numbers are read, so it is not
-/// by `set_once`.
+/// A layer's run, of which there is at most one.
+// That a second is refused is said before its numbers are read, so `set_once` does not serve.
 fn run(line: Line<'_>, earlier: Option<Run>) -> Result<Option<Run>, Trouble> {
     if earlier.is_some() {
         return Err(line.spot.trouble("a second layer of one kind"));

@@ -6,6 +6,7 @@ use device::controller::HOSTS;
 use device::device::Device;
 use device::give_up::give_up;
 use device::ticket::Ticket;
+use std::array;
 use store::store::Store;
 
 /// The ticket that each host holds, if any. It is not `Drop`: `close` ends the tickets.
@@ -18,14 +19,14 @@ impl Desk {
     pub(super) fn new() -> Desk
         ensures { result ≡ empty_desk }
     {
-        // written out, since a ticket's place cannot be copied
         Desk {
-            slots: [None, None, None, None, None, None, None, None],
+            slots: array::from_fn(|_| None),
         }
     }
 
     /// Takes a host's ticket.
-    // By index, here and in `put`: of what `get_mut` lends, its contract does not say what the array is after.
+    // By index, here and in `put`: `get_mut` was tried, and the proof doesn't close, since its contract doesn't say what the
+    // array is after.
     pub(super) fn take(&mut self, host: u8) -> Option<Ticket>
         ensures value { result ≡ held self.old host }
         ensures after { self.new ≡ with_slot self.old host None }
@@ -56,7 +57,7 @@ impl Desk {
         ensures { state S.Store.blocks device.new ≡ all_ended (state S.Store.blocks device.old) self }
     {
         let Desk { slots } = self;
-        // by name, and not by a loop: a loop could end early and let tickets go, which is refused
+        // by name: a loop was tried, and the check refuses it, since it could end early and let tickets go
         let [a, b, c, d, e, f, g, h] = slots;
         end(device, a);
         end(device, b);

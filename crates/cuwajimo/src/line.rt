@@ -28,12 +28,12 @@ impl<'a> Line<'a> {
         self.nth(before).required()
     }
 
-    /// It as a decimal number.
+    /// The word after so many, as a decimal number.
     pub(super) fn number<T: Numeral>(self, before: usize) -> Result<T, Trouble> {
         self.nth(before).number()
     }
 
-    /// It as the name of a file.
+    /// The word after so many, as the name of a file.
     pub(super) fn file(self, before: usize) -> Result<ImageFile, Trouble> {
         let path = String::from_str(self.spot.heap, self.word(before)?)?;
         Ok(ImageFile {

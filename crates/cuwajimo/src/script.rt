@@ -35,7 +35,7 @@ fn read_line(line: Line<'_>, case: &mut Case) -> Result<(), Trouble> {
 pub(super) fn cases(heap: Global, text: &str) -> Result<Vec<Case>, Trouble> {
     let mut cases = Vec::new(heap);
     let mut case = Case::new(heap);
-    // counted by hand: by `enumerate` each number would be one less, of another width, and turned by two more calls
+    // `enumerate` would be no plainer: each number would be one less, of another width, and turned by two more calls
     let mut line = 0u32;
     for whole in text.lines() {
         line = line.saturating_add(1);

@@ -68,7 +68,7 @@ impl<S: Store> Session<'_, S> {
         }
     }
 
-    // A call of its own and not one text with `segment`: the ticket that it takes, the call and what comes back all differ.
+    // One text with `segment` would be no plainer: the ticket that it takes, the call and what comes back all differ.
     fn report(&mut self, host: u8, filling: &Filling) -> Result<(), Trouble> {
         let mut buffer = buffer(self.rt.alloc(), filling)?;
         match self.desk.take(host) {

@@ -61,13 +61,8 @@ impl Spot {
     fn said(self, what: Result<String, AllocError>) -> Trouble
         ensures { Blames self.line result }
     {
-        match what {
-            Ok(what) => Trouble::Line {
-                line: self.line,
-                what,
-            },
-            Err(e) => Trouble::from(e),
-        }
+        let line = self.line;
+        what.map_or_else(Trouble::from, |what| Trouble::Line { line, what })
     }
 
     /// The trouble with this line, in these words.

@@ -62,7 +62,7 @@ pub struct Word<'a> {
 }
 
 impl<'a> Word<'a> {
-    /// It has to be there.
+    /// The word, which has to be there.
     pub(super) fn required(self) -> Result<&'a str, Trouble>
         ensures value { option_map (λ x. x.now) (result_ok result) ≡ option_map (λ x. x.now) self.entry.text }
         ensures line { Blamed self.entry.spot.line result }
@@ -71,7 +71,7 @@ impl<'a> Word<'a> {
             .ok_or_else(|| self.spot.trouble("a word is missing"))
     }
 
-    /// It has to be a decimal number of its field's width.
+    /// The word, which has to be a decimal number of its field's width.
     pub(super) fn number<T: Numeral>(self) -> Result<T, Trouble>
         ensures value { option_map T.number (result_ok result) ≡ number_in T.limit (option_map (λ x. x.now) self.entry.text) }
         ensures line { Blamed self.entry.spot.line result }
@@ -81,7 +81,7 @@ impl<'a> Word<'a> {
             .map_err(|_| self.spot.about(T::REFUSAL, word))
     }
 
-    /// It may not be there.
+    /// No word may be there.
     pub(super) fn absent(self) -> Result<(), Trouble>
         ensures value { is_ok result ≡ not (is_some self.entry.text) }
         ensures line { Blamed self.entry.spot.line result }

@@ -7,14 +7,16 @@ use flex::status::Status;
 use host::transaction::Phase;
 
 /// Permission for the segments of one transaction. Like every ticket it is spent by a call, and cannot be copied or let go.
-// It and `ReportTicket` are two types so that neither passes for the other. One type with a parameter for the phase would
-// name the phase by a bool or a number, since a parameter is no enum, and have an alias for each: no plainer.
+// It and `ReportTicket` are two types so that neither passes for the other. One type with a parameter would be no plainer:
+// a const one names the phase by a bool or a number, a type two empty types and a field that holds nothing, and either
+// has an alias for each.
 pub struct ExecutionTicket {
     pub(super) device: u32,
     pub(super) host: u8,
 }
 
 /// Permission for the report of one transaction.
+// A type of its own: see `ExecutionTicket`.
 pub struct ReportTicket {
     pub(super) device: u32,
     pub(super) host: u8,

@@ -14,6 +14,7 @@ pub struct Mail {
 
 impl Mail {
     /// No wait and no notice.
+    // The derived Default would be no plainer: a clear that leaves it says by this name what it leaves.
     pub fn silent() -> Mail
         ensures { result ≡ silent }
     {

@@ -7,8 +7,8 @@ use store::fault::{BLOCK_BYTES, FaultKind, Protection, StoreFault};
 use store::store::Store;
 
 /// Protects one run of the store below, besides what is protected there.
-// One type for this and a window would be no plainer: what each means of its run differs, and `new`, `below` and
-// `release`, which alone are alike, are of one line each.
+// One type for this and a window would be no plainer: what each means of its run differs, and what is alike, `new`,
+// `below`, `release` and `settle`, is of one line each.
 #[derive(Drop)]
 pub struct WriteGuard<S> {
     below: S,

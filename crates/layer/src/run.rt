@@ -10,6 +10,7 @@ pub struct Run {
 
 impl Run {
     /// No block: a write guard on it protects nothing more.
+    // The derived Default would be no plainer: it stands beside `whole`, and both say what they are.
     pub fn none() -> Run
         ensures { result ≡ no_blocks }
     {

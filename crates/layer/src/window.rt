@@ -7,6 +7,7 @@ use store::fault::{BLOCK_BYTES, FaultKind, Protection, StoreFault};
 use store::store::Store;
 
 /// A run of the blocks of the store below, cut at its end and numbered from 0.
+// A type of its own: see `WriteGuard`.
 #[derive(Drop)]
 pub struct Window<S> {
     below: S,

@@ -15,8 +15,8 @@ use flex::vector::Vector;
 const BLOCK: u32 = 256;
 
 /// What a message has said so far, and the parameters of the host that sends it.
-// The unit map is passed beside a draft and not kept in it: the definitions speak of a draft as a value of its own,
-// which any map may be held against.
+// The unit map is passed beside a draft; kept in it, it would be no plainer: the definitions speak of a draft as a value
+// of its own, which any map may be held against.
 #[derive(Clone, Copy)]
 pub(super) struct Draft {
     pub(super) own: Parameters,

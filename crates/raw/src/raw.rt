@@ -23,6 +23,7 @@ const SOUND: u8 = 0;
 const DAMAGED: u8 = 1;
 
 /// Lent memory of 276-byte records in tracks, and one lent byte a track that is the place of its spare record.
+// A type of its own: see `FlatImage`.
 #[derive(Drop)]
 pub struct RawImage<'a> {
     bytes: &'a mut [u8],
