@@ -1,17 +1,18 @@
 -- What a cache means, before and after a block is kept, given up or settled.
-use Rattle.std.proofs.Common.{◌≡◌, ℕ, zero, suc, ◌+◌, ◌≤◌, true, false, cond, not, ◌&&◌, eqb, List, [], ◌∷◌, map, length, get_or, drop, set, is_some, is_ok, Some, None, Ok, Option, Result, sym, refl, ap, ◌∙◌, subst, inl, inr, arith}
+use Rattle.std.proofs.Common.{◌≡◌, ℕ, zero, suc, Bool, true, false, cond, not, ◌&&◌, eqb, List, [], ◌∷◌, map, length, get_or, set, is_some, is_ok, Some, None, Ok, Err, Option, Result, sym, refl, ap, ◌∙◌, inl, inr, arith}
 use Rattle.std.specs.List.{slice_get}
 use Rattle.std.specs.Option.{option_map}
-use Rattle.std.proofs.lemmas.List.{at_drop_more, drop_more, length-map, set-get_or}
+use Rattle.std.specs.Result.{result_eq}
+use Rattle.std.proofs.lemmas.List.{length-map, set-get_or}
 use Rattle.std.proofs.lemmas.Bool.{cases_Bool, cases_eq}
 use Rattle.store.specs.declared.fault.StoreFault.{StoreFault}
 use Rattle.store.specs.declared.fault.Protection.{Protection}
 use Rattle.store.specs.declared.fault.Protection.TheVariants as protections
 use Rattle.store.specs.Blocks.{Block, Contents, sound, damaged, open_block, read_of, read_at, read_answer, buffer_of, buffer_at, read_buffer, taken, taken_of, write_of, write_at, write_answer, written, protection_at, protection_answer}
 use Rattle.store.proofs.Nth.{same_nth}
-use Rattle.store.proofs.Writes.{nth_written_same, nth_written_other, protection_taken}
+use Rattle.store.proofs.Writes.{nth_written_same, nth_written_other, protection_taken, refused_same}
 use Rattle.cache.specs.declared.slot.Slot.{Slot}
-use Rattle.cache.specs.Caches.{slot, no_slot, place, kept, over, cached, turn_place, given_up, put_bytes, put_below, without, forgotten, or_else, Held, means, giving_up, put_at, keeping, after_read, vacant_slots, is_open, is_open_at, answers_open, admitted, put_slot, same_block, WholeBytes, WholeSlot, nth_cached}
+use Rattle.cache.specs.Caches.{slot, no_slot, place, kept, over, cached, turn_place, given_up, put_bytes, put_below, without, forgotten, or_else, Held, means, giving_up, put_at, keeping, after_read, after_write, vacant_slots, is_open, is_open_at, put_slot, same_block, WholeBytes, WholeSlot, nth_cached}
 use Rattle.cache.proofs.SlotFacts.{first_place, first_within, first_block, first_kept, none_kept, Room, room_own, room_vacant, kept_put, kept_put_other, kept_forgotten, kept_forgotten_other, forgotten_block}
 
 -- A block that is written twice is as if the first write had not been, and the same write again changes nothing.
@@ -145,7 +146,7 @@ module _ (bs : List Block) (slots : List Slot) (b : ℕ) where
   shut_same e = nth_cached bs slots b ∙ at (slice_get bs b) (kept slots b) e
     where
       of : (y : List ℕ) (k : Block) (p : Protection) → is_open p ≡ false → taken_of y k p ≡ k
-      of y k protections.Open f = absurd (let z : ◌≡◌ {A = ℕ} 0 1 = cc in omega arith)
+      of y k protections.Open f = cc
       of y k protections.Protected f = refl
 
       at : (o : Option Block) (f : Option (List ℕ)) → is_open_at o ≡ false → option_map (over f) o ≡ o
@@ -158,10 +159,10 @@ module _ (bs : List Block) (slots : List Slot) (b : ℕ) where
     where
       of : (k : Block) (p : Protection) → is_open p ≡ true → taken_of y k p ≡ open_block y
       of k protections.Open f = rw whole refl
-      of k protections.Protected f = absurd (let z : ◌≡◌ {A = ℕ} 0 1 = cc in omega arith)
+      of k protections.Protected f = cc
 
       at : (p : Option Block) → is_open_at p ≡ true → option_map (taken y) p ≡ Some (open_block y)
-      at None f = absurd (let z : ◌≡◌ {A = ℕ} 0 1 = cc in omega arith)
+      at None f = cc
       at (Some k) f = ap Some (of k k.protection f)
 
 -- A block that is read anew and kept is meant as before.
@@ -179,7 +180,7 @@ module _ (bs : List Block) (slots : List Slot) (b : ℕ) (buffer : List ℕ) (wh
     where
       of : (x : Contents) (p : Protection) → is_open p ≡ true → slice_get (cached bs slots) b ≡ Some (record { contents = x; protection = p }) → cond (is_ok (read_of b x)) (written (cached bs slots) b (buffer_of buffer x)) (cached bs slots) ≡ cached bs slots
       of (sound y) protections.Open f e = rewritten (cached bs slots) b y e
-      of (sound y) protections.Protected f e = absurd (let z : ◌≡◌ {A = ℕ} 0 1 = cc in omega arith)
+      of (sound y) protections.Protected f e = cc
       of damaged p f e = refl
 
       at : (k : Option Block) → is_open_at k ≡ true → slice_get (cached bs slots) b ≡ k → cond (is_ok (read_at b k)) (written (cached bs slots) b (buffer_at buffer k)) (cached bs slots) ≡ cached bs slots
@@ -187,6 +188,10 @@ module _ (bs : List Block) (slots : List Slot) (b : ℕ) (buffer : List ℕ) (wh
       at (Some k) f e = of k.contents k.protection f e
 
 -- The answer to a write is the one below, since what is kept changes no protection.
+abbrev pub admitted : Result Protection StoreFault → ℕ → Result (Unit {0}) StoreFault
+admitted (Ok p) b = write_of b p
+admitted (Err e) b = Err e
+
 module _ (bs : List Block) (slots : List Slot) (b : ℕ) (bytes : List ℕ) (whole : length bytes ≡ 256) where
   pub admitted_write : admitted (protection_answer bs b) b ≡ write_answer (cached bs slots) b bytes
   admitted_write = rw whole (at (slice_get bs b) (kept slots b) ∙ ap (write_at b) (sym (nth_cached bs slots b)))
@@ -196,9 +201,20 @@ module _ (bs : List Block) (slots : List Slot) (b : ℕ) (bytes : List ℕ) (who
       at (Some k) None = refl
       at (Some k) (Some y) = ap (write_of b) (sym (protection_taken y k k.protection refl))
 
-pub answers_at : (o : Option Block) (b : ℕ) → answers_open (protection_at b o) ≡ is_open_at o
-answers_at None b = refl
-answers_at (Some k) b = refl
+-- A write that is refused changes nothing of what the cache means or holds.
+pub refused_write : (h : Held) (b : ℕ) (bytes : List ℕ) (e : StoreFault) → Err e ≡ write_answer (means h) b bytes → (means h ≡ written (means h) b bytes) × (h ≡ after_write h b bytes)
+refused_write h b bytes e answer = (sym (refused_same (means h) b bytes e (sym answer)), ap (λ r. cond (is_ok r) (keeping h b bytes) h) answer)
+
+-- The answer to the protection question, compared with that of an open block, tells whether the block is open.
+pub compared_open :
+    (E : Protection → Protection → Bool) (F : StoreFault → StoreFault → Bool) → E protections.Open protections.Open ≡ true → E protections.Protected protections.Open ≡ false
+    → (o : Option Block) (b : ℕ) → not (result_eq E F (protection_at b o) (Ok protections.Open)) ≡ not (is_open_at o)
+compared_open E F same apart None b = refl
+compared_open E F same apart (Some k) b = of k.protection
+  where
+    of : (p : Protection) → not (E p protections.Open) ≡ not (is_open p)
+    of protections.Open = ap not same
+    of protections.Protected = ap not apart
 
 -- What a cache holds, part by part.
 pub same_held : {s s2 : List Slot} {b b2 : List Block} {t t2 : ℕ} → s ≡ s2 → b ≡ b2 → t ≡ t2 → ◌≡◌ {A = Held} (record { slots = s; below = b; turn = t }) (record { slots = s2; below = b2; turn = t2 })
@@ -268,12 +284,3 @@ module _ (h : Held) (b : ℕ) (buffer : List ℕ) (free : is_open_at (slice_get 
       ap (λ x. cond (is_ok x) (keeping h b bytes) h) e
       ∙ ap (λ y. cond (is_ok (read_answer (means h) b buffer)) (keeping h b y) h) f
       ∙ sym (ap (λ t. cond (t && is_ok (read_answer (means h) b buffer)) (keeping h b (read_buffer (means h) b buffer)) h) free)
-
--- one more slot of a settling, from the last to the first
-pub put_more : (bs : List Block) (slots : List Slot) (p q : ℕ) → p ≡ q + 1 → p ≤ length slots → put_slot (put_all bs (drop p slots)) (get_or slots q no_slot).block (get_or slots q no_slot).bytes ≡ put_all bs (drop q slots)
-put_more bs slots p q e h =
-    ap (λ n. put_slot (put_all bs (drop n slots)) (get_or slots q no_slot).block (get_or slots q no_slot).bytes) e
-    ∙ sym (at_drop_more (λ l. put_all bs l) slots q no_slot (omega arith))
-
-pub whole_more : (slots : List Slot) (p q : ℕ) → p ≡ q + 1 → p ≤ length slots → WholeSlot (get_or slots q no_slot) → WholeSlots (drop p slots) → WholeSlots (drop q slots)
-whole_more slots p q e h w ws = subst WholeSlots (sym (drop_more slots q no_slot (omega arith))) (w, subst (λ n. WholeSlots (drop n slots)) e ws)

@@ -1,20 +1,21 @@
 -- A kept block gives way only to a ninth, and is written below only then.
 use Rattle.std.proofs.Common.{◌≡◌, ℕ, zero, suc, ◌+◌, ◌<◌, Bool, true, false, cond, not, ◌&&◌, List, [], ◌∷◌, length, get_or, is_some, Some, None, Option, sym, refl, ap, ◌∙◌, inl, inr, arith}
+use Rattle.std.specs.List.{position_from}
 use Rattle.std.proofs.lemmas.Bool.{eq-eqb}
 use Rattle.cache.specs.declared.slot.Slot.{Slot}
-use Rattle.cache.specs.Caches.{no_slot, same_block, place, place_from, kept, turn_place, given_up, put_bytes, put_below, forgotten, or_else, Held, giving_up, put_at, keeping, KeptLate}
+use Rattle.cache.specs.Caches.{no_slot, same_block, keeps, place, kept, turn_place, given_up, put_bytes, put_below, forgotten, or_else, Held, giving_up, put_at, keeping, KeptLate}
 use Rattle.cache.proofs.SlotFacts.{first_place, first_within, first_block, none_kept, Room, room_own, room_vacant, kept_put, kept_put_other, kept_forgotten, kept_forgotten_other}
 use Rattle.cache.proofs.CacheFacts.{ninth_room}
 
 -- where no slot is vacant, each keeps a block, and of that block something is kept
-full_from : (i : ℕ) (slots : List Slot) (q : ℕ) → place_from i slots None ≡ None → q < length slots → (g : ℕ) × ((get_or slots q no_slot).block ≡ Some g)
+full_from : (i : ℕ) (slots : List Slot) (q : ℕ) → position_from (keeps None) i slots ≡ None → q < length slots → (g : ℕ) × ((get_or slots q no_slot).block ≡ Some g)
 full_from i [] q e h = absurd (omega arith)
 full_from i (s ∷ ss) q e h = go s.block refl q h (λ r l. full_from (i + 1) ss r l) e
   where
     go : (o : Option ℕ) → s.block ≡ o → (p : ℕ) → p < suc (length ss)
-        → ((r : ℕ) → place_from (i + 1) ss None ≡ None → r < length ss → (g : ℕ) × ((get_or ss r no_slot).block ≡ Some g))
-        → cond (same_block o None) (Some i) (place_from (i + 1) ss None) ≡ None → (g : ℕ) × ((get_or (s ∷ ss) p no_slot).block ≡ Some g)
-    go None f p l rest v = absurd (let z : ◌≡◌ {A = ℕ} 0 1 = cc in omega arith)
+        → ((r : ℕ) → position_from (keeps None) (i + 1) ss ≡ None → r < length ss → (g : ℕ) × ((get_or ss r no_slot).block ≡ Some g))
+        → cond (same_block o None) (Some i) (position_from (keeps None) (i + 1) ss) ≡ None → (g : ℕ) × ((get_or (s ∷ ss) p no_slot).block ≡ Some g)
+    go None f p l rest v = cc
     go (Some g) f zero l rest v = (g, f)
     go (Some g) f (suc p) l rest v = rest p v (omega arith)
 
@@ -43,7 +44,7 @@ module _ (h : Held) (b : ℕ) (bytes : List ℕ) (whole : length bytes ≡ 256) 
       way g y e k =
           let none = none_kept h.slots b own in
           let room = ninth_room h b bytes whole eight none in
-          let apart : g ≡ b → ⊥ = λ f. let c : Some y ≡ None = sym k ∙ ap (kept h.slots) f ∙ none in let z : ◌≡◌ {A = ℕ} 0 1 = cc in omega arith in
+          let apart : g ≡ b → ⊥ = λ f. let c : Some y ≡ None = sym k ∙ ap (kept h.slots) f ∙ none in cc in
           record {
             own = kept_put b bytes (giving_up h).slots (turn_place h.turn) room;
             rest = inr (

@@ -1,32 +1,14 @@
 -- The slots of a cache: looking for one, putting one in, forgetting one.
-use Rattle.std.proofs.Common.{◌≡◌, ℕ, zero, suc, ◌+◌, ◌<◌, ◌≤◌, Bool, true, false, cond, ◌⊎◌, List, [], ◌∷◌, ◌++◌, map, length, get_or, take, drop, set, Some, None, Option, sym, refl, ap, ◌∙◌, subst, inl, inr, arith}
-use Rattle.std.proofs.lemmas.List.{at_drop_more, at_drop_all, take_all, drop_all, append-nil}
+use Rattle.std.proofs.Common.{◌≡◌, ℕ, zero, suc, ◌+◌, ◌<◌, Bool, true, false, cond, ◌⊎◌, List, [], ◌∷◌, map, length, get_or, set, Some, None, Option, sym, refl, ap, ◌∙◌, subst, inl, inr, arith}
+use Rattle.std.specs.List.{position_from}
 use Rattle.std.proofs.lemmas.Bool.{eq-eqb, ne_eqb, eqb-true}
 use Rattle.cache.specs.declared.slot.Slot.{Slot}
-use Rattle.cache.specs.Caches.{same_block, slot, no_slot, place, place_from, kept, without}
-
--- the loop of `find`
-module _ (slots : List Slot) (i : ℕ) (o : Option ℕ) where
-  turn_of : i < length slots → (t : Bool) → t ≡ same_block (get_or slots i no_slot).block o → place_from i (drop i slots) o ≡ cond t (Some i) (place_from (i + 1) (drop (i + 1) slots) o)
-  turn_of h t e = at_drop_more (λ l. place_from i l o) slots i no_slot h ∙ ap (λ x. cond x (Some i) (place_from (i + 1) (drop (i + 1) slots) o)) (sym e)
-
-  pub place_here : i < length slots → true ≡ same_block (get_or slots i no_slot).block o → place_from i (drop i slots) o ≡ Some i
-  place_here h e = turn_of h true e
-
-  pub place_past : i < length slots → false ≡ same_block (get_or slots i no_slot).block o → place_from i (drop i slots) o ≡ place_from (i + 1) (drop (i + 1) slots) o
-  place_past h e = turn_of h false e
-
-  pub place_end : length slots ≤ i → place_from i (drop i slots) o ≡ None
-  place_end h = at_drop_all (λ l. place_from i l o) slots i h
-
--- the loop of `forget`
-pub forget_end : (b : ℕ) (slots : List Slot) (i : ℕ) → length slots ≤ i → map (without b) (take i slots) ++ drop i slots ≡ map (without b) slots
-forget_end b slots i h = ap (λ l. map (without b) (take i slots) ++ l) (drop_all i slots h) ∙ append-nil (map (without b) (take i slots)) ∙ ap (map (without b)) (take_all i slots h)
+use Rattle.cache.specs.Caches.{same_block, slot, no_slot, keeps, place, kept, without}
 
 pub same_true : (o p : Option ℕ) → same_block o p ≡ true → o ≡ p
 same_true None None e = refl
-same_true None (Some b) e = absurd (let z : ◌≡◌ {A = ℕ} 0 1 = cc in omega arith)
-same_true (Some a) None e = absurd (let z : ◌≡◌ {A = ℕ} 0 1 = cc in omega arith)
+same_true None (Some b) e = cc
+same_true (Some a) None e = cc
 same_true (Some a) (Some b) e = ap Some (eqb-true a b e)
 
 other_block : (b j : ℕ) → (j ≡ b → ⊥) → same_block (Some b) (Some j) ≡ false
@@ -38,11 +20,11 @@ First [] o q = ⊥
 First (s ∷ ss) o zero = s.block ≡ o
 First (s ∷ ss) o (suc q) = (same_block s.block o ≡ false) × First ss o q
 
-first_from : (i : ℕ) (slots : List Slot) (o : Option ℕ) (p : ℕ) → place_from i slots o ≡ Some p → (q : ℕ) × (p ≡ i + q) × First slots o q
-first_from i [] o p e = absurd (let z : ◌≡◌ {A = ℕ} 0 1 = cc in omega arith)
+first_from : (i : ℕ) (slots : List Slot) (o : Option ℕ) (p : ℕ) → position_from (keeps o) i slots ≡ Some p → (q : ℕ) × (p ≡ i + q) × First slots o q
+first_from i [] o p e = cc
 first_from i (s ∷ ss) o p e = go (first_from (i + 1) ss o p) (same_block s.block o) refl e
   where
-    go : (place_from (i + 1) ss o ≡ Some p → (q : ℕ) × (p ≡ i + 1 + q) × First ss o q) → (t : Bool) → same_block s.block o ≡ t → cond t (Some i) (place_from (i + 1) ss o) ≡ Some p → (q : ℕ) × (p ≡ i + q) × First (s ∷ ss) o q
+    go : (position_from (keeps o) (i + 1) ss ≡ Some p → (q : ℕ) × (p ≡ i + 1 + q) × First ss o q) → (t : Bool) → same_block s.block o ≡ t → cond t (Some i) (position_from (keeps o) (i + 1) ss) ≡ Some p → (q : ℕ) × (p ≡ i + q) × First (s ∷ ss) o q
     go rest true t f = (0, (let g : i ≡ p = cc in omega arith), same_true s.block o t)
     go rest false t f = let r = rest f in (suc r.0, (let g = r.1 in omega arith), (t, r.2))
 
@@ -64,12 +46,12 @@ first_kept [] b q f = absurd f
 first_kept (s ∷ ss) b zero f = ap (λ o. cond (same_block o (Some b)) (Some s.bytes) (kept ss b)) f ∙ ap (λ t. cond t (Some s.bytes) (kept ss b)) (eq-eqb b b refl)
 first_kept (s ∷ ss) b (suc q) f = ap (λ t. cond t (Some s.bytes) (kept ss b)) f.0 ∙ first_kept ss b q f.1
 
-none_from : (i : ℕ) (slots : List Slot) (b : ℕ) → place_from i slots (Some b) ≡ None → kept slots b ≡ None
+none_from : (i : ℕ) (slots : List Slot) (b : ℕ) → position_from (keeps (Some b)) i slots ≡ None → kept slots b ≡ None
 none_from i [] b e = refl
 none_from i (s ∷ ss) b e = go (none_from (i + 1) ss b) (same_block s.block (Some b)) e
   where
-    go : (place_from (i + 1) ss (Some b) ≡ None → kept ss b ≡ None) → (t : Bool) → cond t (Some i) (place_from (i + 1) ss (Some b)) ≡ None → cond t (Some s.bytes) (kept ss b) ≡ None
-    go rest true f = absurd (let z : ◌≡◌ {A = ℕ} 0 1 = cc in omega arith)
+    go : (position_from (keeps (Some b)) (i + 1) ss ≡ None → kept ss b ≡ None) → (t : Bool) → cond t (Some i) (position_from (keeps (Some b)) (i + 1) ss) ≡ None → cond t (Some s.bytes) (kept ss b) ≡ None
+    go rest true f = cc
     go rest false f = rest f
 
 pub none_kept : (slots : List Slot) (b : ℕ) → place slots (Some b) ≡ None → kept slots b ≡ None
@@ -93,7 +75,7 @@ room_vacant (s ∷ ss) b zero h k e = inl e
 room_vacant (s ∷ ss) b (suc q) h k e = go (λ f. room_vacant ss b q (omega arith) f e) (same_block s.block (Some b)) refl k
   where
     go : (kept ss b ≡ None → Room ss b q) → (t : Bool) → same_block s.block (Some b) ≡ t → cond t (Some s.bytes) (kept ss b) ≡ None → (same_block s.block (Some b) ≡ false) × Room ss b q
-    go rest true t f = absurd (let z : ◌≡◌ {A = ℕ} 0 1 = cc in omega arith)
+    go rest true t f = cc
     go rest false t f = (t, rest f)
 
 -- what is kept once a block has been put in

@@ -1,13 +1,12 @@
 -- A store of which up to eight open blocks are kept above it, and written to it late.
-use Rattle.std.specs.Prelude.{◌≡◌, ℕ, ◌+◌, ◌%◌, Bool, true, false, cond, not, ◌&&◌, ◌⊎◌, List, [], ◌∷◌, map, length, replicate, is_some, is_ok, Some, None, Ok, Err, Option, Result, ◌==◌, ◌≢◌, slice_index_or, slice_set}
+use Rattle.std.specs.Prelude.{◌≡◌, ℕ, ◌+◌, ◌%◌, Bool, true, false, cond, not, ◌&&◌, ◌⊎◌, List, [], ◌∷◌, map, length, replicate, is_some, is_ok, Some, None, Option, ◌==◌, ◌≢◌, slice_index_or, slice_set}
 use Rattle.std.proofs.Common.{sym, subst, ◌∙◌, inl, inr}
-use Rattle.std.specs.List.{slice_get}
+use Rattle.std.specs.List.{slice_get, position_from}
 use Rattle.std.specs.Option.{option_map}
 use Rattle.std.proofs.lemmas.Bool.{cases_Bool, eqb-true}
-use Rattle.store.specs.declared.fault.StoreFault.{StoreFault}
 use Rattle.store.specs.declared.fault.Protection.{Protection}
 use Rattle.store.specs.declared.fault.Protection.TheVariants as protections
-use Rattle.store.specs.Blocks.{Block, read_answer, read_buffer, write_answer, taken, taken_of, write_of, written, Whole, WholeOf, Sized, Lawful}
+use Rattle.store.specs.Blocks.{Block, read_answer, read_buffer, write_answer, taken, taken_of, written, Whole, WholeOf, Sized, Lawful}
 use Rattle.cache.specs.declared.cache.Cache.{Cache}
 use Rattle.cache.specs.declared.slot.Slot.{Slot}
 use Rattle.store.specs.Each.{each, length_each, nth_each}
@@ -38,13 +37,12 @@ same_block None (Some b) = false
 same_block (Some a) None = false
 same_block (Some a) (Some b) = a == b
 
--- The first slot that keeps this block, or with none the first that is vacant, by its place from i on.
-abbrev pub place_from : ℕ → List Slot → Option ℕ → Option ℕ
-place_from i [] o = None
-place_from i (s ∷ ss) o = cond (same_block s.block o) (Some i) (place_from (i + 1) ss o)
+-- The first slot that keeps this block, or with none the first that is vacant, by its place.
+abbrev pub keeps : Option ℕ → Slot → Bool
+keeps o s = same_block s.block o
 
 abbrev pub place : List Slot → Option ℕ → Option ℕ
-place slots o = place_from 0 slots o
+place slots o = position_from (keeps o) 0 slots
 
 -- The bytes that are kept of block b: those in its first slot.
 abbrev pub kept : List Slot → ℕ → Option (List ℕ)
@@ -142,15 +140,6 @@ abbrev pub is_open_at : Option Block → Bool
 is_open_at None = false
 is_open_at (Some k) = is_open k.protection
 
--- What the store below tells of a block's protection, as a yes or no, and as the answer to a write.
-abbrev pub answers_open : Result Protection StoreFault → Bool
-answers_open (Ok p) = is_open p
-answers_open (Err e) = false
-
-abbrev pub admitted : Result Protection StoreFault → ℕ → Result (Unit {0}) StoreFault
-admitted (Ok p) b = write_of b p
-admitted (Err e) b = Err e
-
 abbrev pub was_read : Held → ℕ → List ℕ → Bool
 was_read h b buffer = is_open_at (slice_get h.below b) && is_ok (read_answer (means h) b buffer)
 
@@ -181,9 +170,6 @@ pub record KeptLate (before after : Held) (b : ℕ) (bytes : List ℕ) : Type 0 
 abbrev pub put_slot : List Block → Option ℕ → List ℕ → List Block
 put_slot bs None bytes = bs
 put_slot bs (Some b) bytes = written bs b bytes
-
-abbrev pub written_back : Held → ℕ → Held
-written_back h p = record { slots = h.slots; below = put_slot h.below (slice_index_or h.slots p no_slot).block (slice_index_or h.slots p no_slot).bytes; turn = h.turn }
 
 -- What it holds after settling: every kept block is written below, and stays kept.
 abbrev pub after_settle : Held → Held

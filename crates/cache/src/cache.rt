@@ -1,7 +1,7 @@
-ghost use Rattle.std.specs.Prelude.{◌≡◌, ◌<◌, true, length, is_some, is_ok, if◌then◌else◌, Some, slice_index_or};
+ghost use Rattle.std.specs.Prelude.{◌≡◌, ◌<◌, true, is_some, is_ok, if◌then◌else◌, Some};
 ghost use Rattle.store.specs.Blocks.{read_answer, read_buffer, write_answer, written};
 ghost use Rattle.std.specs.List.{slice_get};
-ghost use Rattle.cache.specs.Caches.{no_slot, WholeSlot, kept, answers_open, admitted, vacant_slots, cached_by, cache_lawful, held, without_block, turn_place, giving_up, place_for, with_room, keeping, written_back, after_read, after_write, after_settle, is_open_at, KeptLate};
+ghost use Rattle.cache.specs.Caches.{kept, vacant_slots, cached_by, cache_lawful, held, without_block, turn_place, giving_up, place_for, with_room, keeping, after_read, after_write, after_settle, is_open_at, KeptLate};
 
 use super::slot::{Slot, find, forget};
 use store::fault::{BLOCK_BYTES, FaultKind, Protection, StoreFault};
@@ -16,31 +16,6 @@ pub struct Cache<S> {
     below: S,
     slots: [Slot; SLOTS],
     turn: usize,
-}
-
-/// Whether the store below has the block, and open.
-fn is_open(answer: Result<Protection, StoreFault>) -> bool
-    ensures { result ≡ answers_open answer }
-{
-    match answer {
-        Ok(Protection::Open) => true,
-        Ok(Protection::Protected) => false,
-        Err(_) => false,
-    }
-}
-
-/// The answer to a write of a whole block, from the answer below to the protection question.
-fn admit(answer: Result<Protection, StoreFault>, block: u32) -> Result<(), StoreFault>
-    ensures { result ≡ admitted answer block }
-{
-    match answer {
-        Ok(Protection::Open) => Ok(()),
-        Ok(Protection::Protected) => Err(StoreFault {
-            kind: FaultKind::Protected,
-            block,
-        }),
-        Err(e) => Err(e),
-    }
 }
 
 impl<S: Store> Cache<S> {
@@ -116,21 +91,18 @@ impl<S: Store> Cache<S> {
     fn room(&mut self, block: u32) -> usize
         ensures place { result ≡ place_for self.old.slots self.old.turn block }
         ensures within { result < 8 }
-        ensures eight { length self.old.slots ≡ 8 }
         ensures held { held S.Store.blocks self.new ≡ with_room (held S.Store.blocks self.old) block }
     {
-        if let Some(own) = find(&self.slots, Some(block)) {
-            return own;
-        }
-        match find(&self.slots, None) {
-            Some(vacant) => vacant,
+        let own = find(&self.slots, Some(block));
+        // `unwrap_or_else` was tried: from it the proof learns nothing of `self` where no block is given up
+        match own.or_else(|| find(&self.slots, None)) {
+            Some(place) => place,
             None => self.give_up(),
         }
     }
 
     /// Keeps a block with these bytes.
-    fn keep(&mut self, block: u32, bytes: &[u8])
-        requires { length bytes.now ≡ 256 }
+    fn keep(&mut self, block: u32, bytes: &[u8; BLOCK_BYTES])
         ensures held { held S.Store.blocks self.new ≡ keeping (held S.Store.blocks self.old) block bytes.now }
         ensures after { cached_by S.Store.blocks self.new ≡ written (cached_by S.Store.blocks self.old) block bytes.now }
         ensures late { KeptLate (held S.Store.blocks self.old) (held S.Store.blocks self.new) block bytes.now }
@@ -140,34 +112,16 @@ impl<S: Store> Cache<S> {
     }
 
     /// Reads an open block that is not kept, and keeps it.
-    fn fetch(&mut self, block: u32, buffer: &mut [u8]) -> Result<(), StoreFault>
-        requires { length buffer.old ≡ 256 }
+    fn fetch(&mut self, block: u32, buffer: &mut [u8; BLOCK_BYTES]) -> Result<(), StoreFault>
         ensures answer { result ≡ read_answer (S.Store.blocks self.old.below) block buffer.old }
         ensures buffer { buffer.new ≡ read_buffer (S.Store.blocks self.old.below) block buffer.old }
         ensures held { held S.Store.blocks self.new ≡ (if is_ok result then keeping (held S.Store.blocks self.old) block buffer.new else held S.Store.blocks self.old) }
         ensures after { cached_by S.Store.blocks self.new ≡ (if is_ok result then written (cached_by S.Store.blocks self.old) block buffer.new else cached_by S.Store.blocks self.old) }
         ensures late { is_ok result ≡ true → KeptLate (held S.Store.blocks self.old) (held S.Store.blocks self.new) block buffer.new }
     {
-        match self.below.read(block, buffer) {
-            Ok(()) => {
-                self.keep(block, buffer);
-                Ok(())
-            }
-            Err(e) => Err(e),
-        }
-    }
-
-    /// Writes what a slot keeps to the store below.
-    fn write_back(&mut self, place: usize)
-        requires { place < 8 }
-        ensures held { held S.Store.blocks self.new ≡ written_back (held S.Store.blocks self.old) place }
-        ensures eight { length self.old.slots ≡ 8 }
-        ensures whole { WholeSlot (slice_index_or self.old.slots place no_slot) }
-    {
-        let kept = self.slots[place].block;
-        if let Some(block) = kept {
-            let _ = self.below.write(block, &self.slots[place].bytes);
-        }
+        self.below.read(block, buffer)?;
+        self.keep(block, buffer);
+        Ok(())
     }
 }
 
@@ -191,17 +145,12 @@ impl<S: Store> Store for Cache<S> {
         ensures held { held S.Store.blocks self.new ≡ after_read (held S.Store.blocks self.old) block buffer.old }
         ensures late { is_ok result ≡ true → is_open_at (slice_get (S.Store.blocks self.old.below) block) ≡ true → KeptLate (held S.Store.blocks self.old) (held S.Store.blocks self.new) block buffer.new }
     {
-        if buffer.len() != BLOCK_BYTES {
-            return Err(StoreFault {
-                kind: FaultKind::Length,
-                block,
-            });
-        }
-        if !is_open(self.below.protection(block)) {
+        let buffer = buffer.as_mut_array().ok_or(FaultKind::Length.at(block))?;
+        if self.below.protection(block) != Ok(Protection::Open) {
             return self.below.read(block, buffer);
         }
         if let Some(place) = find(&self.slots, Some(block)) {
-            buffer.copy_from_slice(&self.slots[place].bytes);
+            *buffer = self.slots[place].bytes;
             return Ok(());
         }
         self.fetch(block, buffer)
@@ -213,19 +162,10 @@ impl<S: Store> Store for Cache<S> {
         ensures held { held S.Store.blocks self.new ≡ after_write (held S.Store.blocks self.old) block bytes.now }
         ensures late { is_ok result ≡ true → KeptLate (held S.Store.blocks self.old) (held S.Store.blocks self.new) block bytes.now }
     {
-        if bytes.len() != BLOCK_BYTES {
-            return Err(StoreFault {
-                kind: FaultKind::Length,
-                block,
-            });
-        }
-        match admit(self.below.protection(block), block) {
-            Ok(()) => {
-                self.keep(block, bytes);
-                Ok(())
-            }
-            Err(e) => Err(e),
-        }
+        let bytes = bytes.as_array().ok_or(FaultKind::Length.at(block))?;
+        self.below.protection(block)?.permit(block)?;
+        self.keep(block, bytes);
+        Ok(())
     }
 
     fn protection(&self, block: u32) -> Result<Protection, StoreFault> {
@@ -237,11 +177,10 @@ impl<S: Store> Store for Cache<S> {
         ensures settled { S.Store.settled self.new.below × (S.Store.blocks self.new.below ≡ cached_by S.Store.blocks self.new) }
         ensures held { held S.Store.blocks self.new ≡ after_settle (held S.Store.blocks self.old) }
     {
-        let slots: &[Slot] = &self.slots;
-        let mut place = slots.len();
-        while place > 0 {
-            place -= 1;
-            self.write_back(place);
+        for slot in self.slots.iter().rev() {
+            if let Some(block) = slot.block {
+                let _ = self.below.write(block, &slot.bytes);
+            }
         }
         self.below.settle()
     }

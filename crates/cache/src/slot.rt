@@ -1,9 +1,11 @@
-ghost use Rattle.std.specs.Prelude.{◌≡◌, ◌<◌, length, IfSome, if◌then◌else◌, Some, None};
-ghost use Rattle.cache.specs.Caches.{slot, same_block, place, forgotten};
+ghost use Rattle.std.specs.Prelude.{◌≡◌, ◌<◌, length, IfSome, Some};
+ghost use Rattle.cache.specs.Caches.{slot, place, without, forgotten};
 
 use store::fault::BLOCK_BYTES;
 
 /// The place of one block in a cache: the block that it keeps, or none, and that block's bytes.
+// The bytes stand beside the block and not within its Option, which would be no plainer: the definitions say what the
+// slots hold after each call, the bytes of a vacant one too.
 #[derive(Clone, Copy)]
 pub(super) struct Slot {
     pub(super) block: Option<u32>,
@@ -11,20 +13,21 @@ pub(super) struct Slot {
 }
 
 impl Slot {
-    /// Whether it keeps this block, or with `None` nothing.
-    fn keeps(&self, block: Option<u32>) -> bool
-        ensures { result ≡ same_block self.now.block block }
-    {
-        self.block == block
-    }
-
     /// Keeps this block with these bytes from now on.
-    pub(super) fn fill(&mut self, block: u32, bytes: &[u8])
-        requires { length bytes.now ≡ 256 }
+    pub(super) fn fill(&mut self, block: u32, bytes: &[u8; BLOCK_BYTES])
         ensures { self.new ≡ slot block bytes.now }
     {
         self.block = Some(block);
-        self.bytes.copy_from_slice(bytes);
+        self.bytes = *bytes;
+    }
+
+    /// Keeps this block no more.
+    fn forget(&mut self, block: u32)
+        ensures { self.new ≡ without block self.old }
+    {
+        if self.block == Some(block) {
+            self.block = None;
+        }
     }
 }
 
@@ -33,26 +36,14 @@ pub(super) fn find(slots: &[Slot], block: Option<u32>) -> Option<usize>
     ensures place { result ≡ place slots.now block }
     ensures within { IfSome result (λ i. i < length slots.now) }
 {
-    for (i, slot) in slots.iter().enumerate() {
-        if slot.keeps(block) {
-            return Some(i);
-        }
-    }
-    None
-}
-
-/// What a slot keeps once this block is kept no more.
-fn but(kept: Option<u32>, block: u32) -> Option<u32>
-    ensures { result ≡ (if same_block kept (Some block) then None else kept) }
-{
-    if kept == Some(block) { None } else { kept }
+    slots.iter().position(|slot| slot.block == block)
 }
 
 /// Makes every slot that keeps this block vacant.
 pub(super) fn forget(slots: &mut [Slot], block: u32)
     ensures { slots.new ≡ forgotten slots.old (Some block) }
 {
-    for i in 0..slots.len() {
-        slots[i].block = but(slots[i].block, block);
+    for slot in slots.iter_mut() {
+        slot.forget(block);
     }
 }

@@ -1,10 +1,7 @@
 mod Comments
 mod Fills
-mod Firsts
 mod Hexadecimal
-mod Holders
 mod Layers
-mod Numbers
 mod Refilled
 mod Tickets
 mod Troubles

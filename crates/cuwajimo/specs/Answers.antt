@@ -1,5 +1,6 @@
 -- What the program says of a device.
-use Rattle.std.specs.Prelude.{ℕ, zero, suc, ◌+◌, Bool, false, cond, List, Some, None, Ok, Err, codes, Option, Result}
+use Rattle.std.specs.Prelude.{ℕ, Bool, false, List, Ok, Err, codes, find, Option, Result}
+use Rattle.std.specs.List.{range_with_len}
 use Rattle.flex.specs.declared.status.Status.{Status}
 use Rattle.host.specs.declared.locks.Locks.{Locks}
 use Rattle.host.specs.Hosts.{unit_lock}
@@ -10,14 +11,17 @@ use Rattle.device.specs.Device.{locks_of}
 use Rattle.cuwajimo.specs.declared.say.Lock.{Lock}
 use Rattle.cuwajimo.specs.declared.say.Lock.TheVariants as locks
 
+-- What a ticket is for: the segments of its transaction, for which there is this word, or its report.
+abbrev pub phase_word : Ticket → List ℕ → List ℕ
+phase_word (Execution ticket) segments = segments
+phase_word (Report ticket) segments = codes "report"
+
 -- The kind of ticket that a command gets, and what comes after a segment.
 abbrev pub kind_of_ticket : Ticket → List ℕ
-kind_of_ticket (Execution ticket) = codes "execution"
-kind_of_ticket (Report ticket) = codes "report"
+kind_of_ticket ticket = phase_word ticket (codes "execution")
 
 abbrev pub what_follows : Ticket → List ℕ
-what_follows (Execution ticket) = codes "more"
-what_follows (Report ticket) = codes "report"
+what_follows ticket = phase_word ticket (codes "more")
 
 -- A lock among those of a host; a host above 7 has none.
 abbrev pub lock_among : Lock → Result Locks Status → Bool
@@ -29,10 +33,6 @@ lock_among (locks.Unit unit) (Err status) = false
 abbrev pub holds : Controller → Lock → ℕ → Bool
 holds controller lock host = lock_among lock (locks_of controller host)
 
--- The first of n hosts, from a host on, that holds a lock.
-abbrev pub holder_from : Controller → Lock → ℕ → ℕ → Option ℕ
-holder_from controller lock zero host = None
-holder_from controller lock (suc n) host = cond (holds controller lock host) (Some host) (holder_from controller lock n (host + 1))
-
+-- The first of the eight hosts that holds a lock.
 abbrev pub first_holder : Controller → Lock → Option ℕ
-first_holder controller lock = holder_from controller lock 8 0
+first_holder controller lock = find (holds controller lock) (range_with_len 0 8)

@@ -9,3 +9,4 @@ pub mod Plans
 pub mod Sums
 pub mod Troubles
 pub mod Words
+pub mod Numerals

@@ -2,20 +2,14 @@
 use Rattle.std.specs.Prelude.{◌≡◌, true, false, [], ◌∷◌, ◌++◌, is_some, Some, None, Ok, Err, vec_items, Option, Result}
 use Rattle.std.specs.Option.{unwrap_or}
 use Rattle.store.specs.declared.fault.Protection.TheVariants as protections
+use Rattle.layer.specs.declared.run.Run.{Run}
+use Rattle.layer.specs.Runs.{no_blocks, all_blocks}
 use Rattle.layer.specs.declared.window.Window.{Window}
 use Rattle.layer.specs.declared.guard.WriteGuard.{WriteGuard}
-use Rattle.cuwajimo.specs.declared.plan.Run.{Run}
 use Rattle.cuwajimo.specs.declared.plan.Fill.{Fill}
 use Rattle.cuwajimo.specs.declared.plan.Plan.{Plan}
 use Rattle.cuwajimo.specs.declared.trouble.Trouble.{Trouble}
 use Rattle.cuwajimo.specs.Troubles.{IfLine}
-
--- The run of no blocks, and one that has every block of any store: no store has so many.
-abbrev pub no_blocks : Run
-no_blocks = record { first = 0; count = 0 }
-
-abbrev pub all_blocks : Run
-all_blocks = record { first = 0; count = 4294967295 }
 
 -- The run that the window shows is the window line's, and without one every block.
 abbrev pub shown_run : Plan → Run
@@ -27,11 +21,7 @@ guarded_run plan = unwrap_or plan.guard no_blocks
 
 -- The pile under the cache: the image, then the window, then the write guard.
 abbrev pub layers : {S : Type 0} → Plan → S → WriteGuard (Window S)
-layers plan image = record {
-  below = record { below = image; first = (shown_run plan).first; count = (shown_run plan).count };
-  first = (guarded_run plan).first;
-  count = (guarded_run plan).count;
-}
+layers plan image = record { below = record { below = image; run = shown_run plan }; run = guarded_run plan }
 
 -- The plan has neither a window line nor a guard line.
 abbrev pub NoLayer : Plan → Type 0

@@ -20,8 +20,8 @@ fn repeated(bytes: &[u8], place: usize) -> u8
 fn fill(buffer: &mut [u8], bytes: &[u8])
     ensures { buffer.new ≡ repeating bytes.now (length buffer.old) }
 {
-    for place in 0..buffer.len() {
-        buffer[place] = repeated(bytes, place);
+    for (place, byte) in buffer.iter_mut().enumerate() {
+        *byte = repeated(bytes, place);
     }
 }
 

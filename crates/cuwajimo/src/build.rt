@@ -2,113 +2,88 @@ ghost use Rattle.std.specs.Prelude.{◌≡◌, not, is_some, is_ok};
 ghost use Rattle.cuwajimo.specs.Troubles.{Blamed};
 ghost use Rattle.cuwajimo.specs.Plans.{first_set, FillAdded};
 
-use super::plan::{Fill, Plan, Run, Source};
+use super::line::Line;
+use super::plan::{Fill, Plan, Source};
 use super::trouble::{Spot, Trouble};
-use super::words::{byte, end, is_number, number, short, word};
+use super::words::is_number;
 use flex::geometry::Geometry;
 use flex::unit::Unit;
+use layer::run::Run;
 use store::fault::Protection;
 
 /// `flat N`, or `flat DATA MAP`.
-fn flat(spot: Spot, line: &str) -> Result<Source, Trouble> {
-    let mut words = line.split_whitespace().skip(1);
-    let first = word(spot, words.next())?;
-    if is_number(first) {
-        let blocks = number(spot, Some(first))?;
-        end(spot, words.next())?;
+fn flat(line: Line<'_>) -> Result<Source, Trouble> {
+    if is_number(line.word(1)?) {
+        let blocks = line.number(1)?;
+        line.end(2)?;
         return Ok(Source::Flat { blocks });
     }
-    let bytes = String::from_str(spot.heap, first)?;
-    let damage = String::from_str(spot.heap, word(spot, words.next())?)?;
-    end(spot, words.next())?;
-    Ok(Source::FlatFiles {
-        line: spot.line,
-        bytes,
-        damage,
-    })
+    let bytes = line.file(1)?;
+    let damage = line.file(2)?;
+    line.end(3)?;
+    Ok(Source::FlatFiles { bytes, damage })
 }
 
 /// `raw T R S0 .. ST-1`, or `raw DATA SPARES R`.
-fn raw(spot: Spot, line: &str) -> Result<Source, Trouble> {
-    let mut words = line.split_whitespace().skip(1);
-    let first = word(spot, words.next())?;
-    if is_number(first) {
-        return raw_in_memory(spot, line);
+fn raw(line: Line<'_>) -> Result<Source, Trouble> {
+    if is_number(line.word(1)?) {
+        return raw_in_memory(line);
     }
-    let bytes = String::from_str(spot.heap, first)?;
-    let spares = String::from_str(spot.heap, word(spot, words.next())?)?;
-    let records = number(spot, words.next())?;
-    end(spot, words.next())?;
+    let bytes = line.file(1)?;
+    let spares = line.file(2)?;
+    let records = line.number(3)?;
+    line.end(4)?;
     Ok(Source::RawFiles {
-        line: spot.line,
         bytes,
         spares,
         records,
     })
 }
 
-fn raw_in_memory(spot: Spot, line: &str) -> Result<Source, Trouble> {
-    let mut words = line.split_whitespace().skip(1);
-    let tracks = number(spot, words.next())?;
-    let records = number(spot, words.next())?;
-    let mut spares = Vec::new(spot.heap);
-    for place in words {
-        spares.push(byte(spot, Some(place))?)?;
-    }
+fn raw_in_memory(line: Line<'_>) -> Result<Source, Trouble> {
+    let tracks = line.number::<u32>(1)?;
+    let records = line.number(2)?;
+    let spares = line.numbers(3)?;
     if spares.len() != tracks as usize {
-        return Err(spot.trouble("there is not one spare place for each track"));
+        return Err(
+            line.spot
+                .trouble("there is not one spare place for each track"),
+        );
     }
     Ok(Source::Raw { records, spares })
 }
 
-/// `damage B ..`
-fn damage(spot: Spot, line: &str) -> Result<Fill, Trouble> {
-    let mut blocks = Vec::new(spot.heap);
-    for block in line.split_whitespace().skip(1) {
-        blocks.push(number(spot, Some(block))?)?;
-    }
-    Ok(Fill::Damage(blocks))
-}
-
 /// A layer's run, of which there is at most one.
-fn run(spot: Spot, line: &str, earlier: Option<Run>) -> Result<Option<Run>, Trouble> {
+// That a second is refused is said before its numbers are read, so `set_once` does not serve.
+fn run(line: Line<'_>, earlier: Option<Run>) -> Result<Option<Run>, Trouble> {
     if earlier.is_some() {
-        return Err(spot.trouble("a second layer of one kind"));
+        return Err(line.spot.trouble("a second layer of one kind"));
     }
-    let mut words = line.split_whitespace().skip(1);
-    let first = number(spot, words.next())?;
-    let count = number(spot, words.next())?;
-    end(spot, words.next())?;
+    let first = line.number(1)?;
+    let count = line.number(2)?;
+    line.end(3)?;
     Ok(Some(Run { first, count }))
 }
 
 /// `unit F C D S`
-fn unit(spot: Spot, line: &str) -> Result<Unit, Trouble> {
-    let mut words = line.split_whitespace().skip(1);
-    let first = number(spot, words.next())?;
-    let cylinders = short(spot, words.next())?;
-    let heads = byte(spot, words.next())?;
-    let sectors = byte(spot, words.next())?;
-    end(spot, words.next())?;
-    let geometry = Geometry {
-        cylinders,
-        heads,
-        sectors,
+fn unit(line: Line<'_>) -> Result<Unit, Trouble> {
+    let unit = Unit {
+        first: line.number(1)?,
+        geometry: Geometry {
+            cylinders: line.number(2)?,
+            heads: line.number(3)?,
+            sectors: line.number(4)?,
+        },
     };
-    Ok(Unit { first, geometry })
+    line.end(5)?;
+    Ok(unit)
 }
 
 /// A line with one number after its first word.
-fn single(spot: Spot, line: &str) -> Result<u32, Trouble> {
-    let mut words = line.split_whitespace().skip(1);
-    let n = number(spot, words.next())?;
-    end(spot, words.next())?;
+fn single(line: Line<'_>) -> Result<u32, Trouble> {
+    let n = line.number(1)?;
+    line.end(2)?;
     Ok(n)
-}
-
-/// A line that is one word.
-fn alone(spot: Spot, line: &str) -> Result<(), Trouble> {
-    end(spot, line.split_whitespace().skip(1).next())
 }
 
 /// Sets what there is at most one of.
@@ -129,10 +104,6 @@ fn set_once<T: Drop>(
     Ok(())
 }
 
-fn set_source(spot: Spot, plan: &mut Plan, source: Source) -> Result<(), Trouble> {
-    set_once(spot, &mut plan.source, source, "a second image")
-}
-
 /// Adds what is to be done to the image, which stands before it.
 fn add_fill(spot: Spot, plan: &mut Plan, fill: Fill) -> Result<(), Trouble>
     ensures { FillAdded plan.old fill plan.new result }
@@ -144,41 +115,47 @@ fn add_fill(spot: Spot, plan: &mut Plan, fill: Fill) -> Result<(), Trouble>
     Ok(())
 }
 
-/// Adds what a building line says to the plan.
-pub(super) fn read(spot: Spot, plan: &mut Plan, line: &str) -> Result<(), Trouble> {
-    match line.split_whitespace().next() {
-        Some("flat") => set_source(spot, plan, flat(spot, line)?),
-        Some("raw") => set_source(spot, plan, raw(spot, line)?),
-        Some("pattern") => add_fill(spot, plan, Fill::Pattern(single(spot, line)?)),
-        Some("damage") => add_fill(spot, plan, damage(spot, line)?),
-        _ => read_layer(spot, plan, line),
-    }
-}
-
-fn read_layer(spot: Spot, plan: &mut Plan, line: &str) -> Result<(), Trouble> {
-    match line.split_whitespace().next() {
-        Some("protect") => {
-            alone(spot, line)?;
-            plan.protection = Protection::Protected;
+impl Plan {
+    /// Adds what a building line says.
+    pub(super) fn read(&mut self, line: Line<'_>) -> Result<(), Trouble> {
+        match line.first() {
+            Some("flat") => self.set_source(line.spot, flat(line)?),
+            Some("raw") => self.set_source(line.spot, raw(line)?),
+            Some("pattern") => add_fill(line.spot, self, Fill::Pattern(single(line)?)),
+            Some("damage") => add_fill(line.spot, self, Fill::Damage(line.numbers(1)?)),
+            _ => self.read_layer(line),
         }
-        Some("window") => plan.window = run(spot, line, plan.window)?,
-        Some("guard") => plan.guard = run(spot, line, plan.guard)?,
-        Some("cache") => {
-            alone(spot, line)?;
-            plan.cache = true;
-        }
-        _ => return read_map(spot, plan, line),
     }
-    Ok(())
-}
 
-fn read_map(spot: Spot, plan: &mut Plan, line: &str) -> Result<(), Trouble> {
-    match line.split_whitespace().next() {
-        Some("unit") => plan.units.push(unit(spot, line)?)?,
-        Some("end") => plan.end = single(spot, line)?,
-        Some("device") => plan.device = single(spot, line)?,
-        Some(other) => return Err(spot.about("unknown word", other)),
-        None => {}
+    fn set_source(&mut self, spot: Spot, source: Source) -> Result<(), Trouble> {
+        set_once(spot, &mut self.source, source, "a second image")
     }
-    Ok(())
+
+    fn read_layer(&mut self, line: Line<'_>) -> Result<(), Trouble> {
+        match line.first() {
+            Some("protect") => {
+                line.end(1)?;
+                self.protection = Protection::Protected;
+            }
+            Some("window") => self.window = run(line, self.window)?,
+            Some("guard") => self.guard = run(line, self.guard)?,
+            Some("cache") => {
+                line.end(1)?;
+                self.cache = true;
+            }
+            _ => return self.read_map(line),
+        }
+        Ok(())
+    }
+
+    fn read_map(&mut self, line: Line<'_>) -> Result<(), Trouble> {
+        match line.first() {
+            Some("unit") => self.units.push(unit(line)?)?,
+            Some("end") => self.end = single(line)?,
+            Some("device") => self.device = single(line)?,
+            Some(other) => return Err(line.spot.about("unknown word", other)),
+            None => {}
+        }
+        Ok(())
+    }
 }

@@ -1,8 +1,9 @@
-ghost use Rattle.std.specs.Prelude.{◌≡◌};
+ghost use Rattle.std.specs.Prelude.{◌≡◌, Some};
 ghost use Rattle.cuwajimo.specs.Calls.{host_act_name, act_name, is_off_act};
 
-use super::trouble::{Spot, Trouble};
-use super::words::{byte, end, hex, nth, number};
+use super::line::Line;
+use super::trouble::Trouble;
+use std::fmt;
 
 /// The bytes that a buffer is made of: so many, these over and over, or zero if there are none.
 #[derive(Drop)]
@@ -42,12 +43,12 @@ pub struct Call {
     pub act: Act,
 }
 
-impl HostAct {
-    /// The word that its line begins with.
-    fn name(&self) -> &'static str
-        ensures { result.now ≡ host_act_name self.now }
-    {
-        match self {
+/// The word that its line begins with.
+impl fmt::Display for HostAct {
+    ghost output = { λ act. Some (host_act_name act) };
+
+    fn fmt<W: fmt::Write>(&self, f: &mut fmt::Formatter<W>) -> fmt::Result {
+        f.write_str(match self {
             HostAct::Command(_) => "command",
             HostAct::Segment(_) => "segment",
             HostAct::Report(_) => "report",
@@ -56,104 +57,92 @@ impl HostAct {
             HostAct::Notice => "notice",
             HostAct::Fault => "fault",
             HostAct::Params => "params",
+        })
+    }
+}
+
+/// The word that its line begins with.
+impl fmt::Display for Act {
+    ghost output = { λ act. Some (act_name act) };
+
+    fn fmt<W: fmt::Write>(&self, f: &mut fmt::Formatter<W>) -> fmt::Result {
+        match self {
+            Act::Host { host: _, act } => act.fmt(f),
+            Act::Locks => f.write_str("locks"),
+            Act::Activity => f.write_str("activity"),
+            Act::Off => f.write_str("off"),
+            Act::Blocks { first: _, count: _ } => f.write_str("blocks"),
+            Act::Save => f.write_str("save"),
         }
     }
 }
 
 impl Act {
-    /// The word that its line begins with.
-    pub(super) fn name(&self) -> &'static str
-        ensures { result.now ≡ act_name self.now }
-    {
-        match self {
-            Act::Host { host: _, act } => act.name(),
-            Act::Locks => "locks",
-            Act::Activity => "activity",
-            Act::Off => "off",
-            Act::Blocks { first: _, count: _ } => "blocks",
-            Act::Save => "save",
-        }
-    }
-
     /// Whether it powers the device off.
     pub(super) fn is_off(&self) -> bool
         ensures { result ≡ is_off_act self.now }
     {
-        match self {
-            Act::Off => true,
-            _ => false,
-        }
+        matches!(self, Act::Off)
     }
 }
 
 /// `SIZE HEX`, after the host.
-fn size_and_hex(spot: Spot, line: &str) -> Result<Filling, Trouble> {
-    let size = number(spot, nth(line, 2))?;
-    let bytes = hex(spot, line, 3)?;
-    Ok(Filling { size, bytes })
+fn size_and_hex(line: Line<'_>) -> Result<Filling, Trouble> {
+    Ok(Filling {
+        size: line.number(2)?,
+        bytes: line.hex(3)?,
+    })
+}
+
+/// A call with nothing after so many words.
+fn alone<T: Drop>(line: Line<'_>, words: usize, act: T) -> Result<Option<T>, Trouble> {
+    line.end(words)?;
+    Ok(Some(act))
 }
 
 /// What a line asks for its host, or none where its first word is no such call's.
-fn host_act(spot: Spot, line: &str) -> Result<Option<HostAct>, Trouble> {
-    let act = match line.split_whitespace().next() {
-        Some("command") => HostAct::Command(hex(spot, line, 2)?),
-        Some("segment") => HostAct::Segment(size_and_hex(spot, line)?),
-        Some("report") => HostAct::Report(size_and_hex(spot, line)?),
-        _ => return short_act(spot, line),
-    };
-    Ok(Some(act))
-}
-
-/// A call with nothing after its host.
-fn short_act(spot: Spot, line: &str) -> Result<Option<HostAct>, Trouble> {
-    let act = match line.split_whitespace().next() {
-        Some("cancel") => HostAct::Cancel,
-        Some("clear") => HostAct::Clear,
-        Some("notice") => HostAct::Notice,
-        Some("fault") => HostAct::Fault,
-        Some("params") => HostAct::Params,
-        _ => return Ok(None),
-    };
-    end(spot, nth(line, 2))?;
-    Ok(Some(act))
+fn host_act(line: Line<'_>) -> Result<Option<HostAct>, Trouble> {
+    match line.first() {
+        Some("command") => Ok(Some(HostAct::Command(line.hex(2)?))),
+        Some("segment") => Ok(Some(HostAct::Segment(size_and_hex(line)?))),
+        Some("report") => Ok(Some(HostAct::Report(size_and_hex(line)?))),
+        Some("cancel") => alone(line, 2, HostAct::Cancel),
+        Some("clear") => alone(line, 2, HostAct::Clear),
+        Some("notice") => alone(line, 2, HostAct::Notice),
+        Some("fault") => alone(line, 2, HostAct::Fault),
+        Some("params") => alone(line, 2, HostAct::Params),
+        _ => Ok(None),
+    }
 }
 
 /// A call of no host, or none.
-fn common_act(spot: Spot, line: &str) -> Result<Option<Act>, Trouble> {
-    let act = match line.split_whitespace().next() {
-        Some("locks") => Act::Locks,
-        Some("activity") => Act::Activity,
-        Some("off") => Act::Off,
-        Some("save") => Act::Save,
-        Some("blocks") => return blocks(spot, line),
-        _ => return Ok(None),
-    };
-    end(spot, nth(line, 1))?;
-    Ok(Some(act))
+fn common_act(line: Line<'_>) -> Result<Option<Act>, Trouble> {
+    match line.first() {
+        Some("locks") => alone(line, 1, Act::Locks),
+        Some("activity") => alone(line, 1, Act::Activity),
+        Some("off") => alone(line, 1, Act::Off),
+        Some("save") => alone(line, 1, Act::Save),
+        Some("blocks") => blocks(line),
+        _ => Ok(None),
+    }
 }
 
 /// `blocks F N`
-fn blocks(spot: Spot, line: &str) -> Result<Option<Act>, Trouble> {
-    let first = number(spot, nth(line, 1))?;
-    let count = number(spot, nth(line, 2))?;
-    end(spot, nth(line, 3))?;
-    Ok(Some(Act::Blocks { first, count }))
+fn blocks(line: Line<'_>) -> Result<Option<Act>, Trouble> {
+    let first = line.number(1)?;
+    let count = line.number(2)?;
+    alone(line, 3, Act::Blocks { first, count })
 }
 
 /// A call's line, or none where its first word is no call's.
-pub(super) fn read_call(spot: Spot, line: &str) -> Result<Option<Call>, Trouble> {
-    let act = match host_act(spot, line)? {
+pub(super) fn read_call(line: Line<'_>) -> Result<Option<Call>, Trouble> {
+    let act = match host_act(line)? {
         Some(act) => Some(Act::Host {
-            host: byte(spot, nth(line, 1))?,
+            host: line.number(1)?,
             act,
         }),
-        None => common_act(spot, line)?,
+        None => common_act(line)?,
     };
-    match act {
-        Some(act) => Ok(Some(Call {
-            line: spot.line,
-            act,
-        })),
-        None => Ok(None),
-    }
+    let line = line.spot.line;
+    Ok(act.map(|act| Call { line, act }))
 }

@@ -33,10 +33,7 @@ impl Case {
     pub(super) fn first(&self) -> Option<&Call>
         ensures { option_map (λ x. x.now) result ≡ first_of (calls_on self.now ++ calls_off self.now) }
     {
-        match self.on.first() {
-            Some(call) => Some(call),
-            None => self.off.first(),
-        }
+        self.on.first().or(self.off.first())
     }
 
     /// Adds a call after those that are there.
@@ -50,4 +47,11 @@ impl Case {
         }
         Ok(())
     }
+}
+
+/// A case that is carried out, and the runtime to read, print and write by.
+#[derive(Clone, Copy)]
+pub struct CaseRun<'a> {
+    pub(super) rt: &'a HostRuntime,
+    pub(super) case: &'a Case,
 }

@@ -3,7 +3,7 @@ ghost use Rattle.image.specs.Images.{harmed};
 ghost use Rattle.cuwajimo.specs.Bytes.{pattern_byte, pattern_block};
 ghost use Rattle.cuwajimo.specs.Fills.{patterned, harmed_all, filled, filled_all};
 
-use super::medium::Medium;
+use super::medium::{Medium, OnImage};
 use super::plan::Fill;
 use flat::flat::FlatImage;
 use raw::raw::RawImage;
@@ -12,7 +12,7 @@ use store::fault::{BLOCK_BYTES, Protection};
 use store::store::Store;
 
 /// An image of which a block can be marked damaged.
-trait Mark: Store {
+pub(super) trait Mark: Store {
     fn mark(&mut self, block: u32)
         ensures { Self.Store.blocks self.new ≡ harmed (Self.Store.blocks self.old) block };
 }
@@ -41,8 +41,8 @@ fn pattern(p: u32, block: u32) -> [u8; BLOCK_BYTES]
     ensures { result ≡ pattern_block p block }
 {
     let mut bytes = [0u8; BLOCK_BYTES];
-    for place in 0..256u32 {
-        bytes[place as usize] = pattern_byte(p, block, place);
+    for (place, byte) in bytes.iter_mut().enumerate() {
+        *byte = pattern_byte(p, block, place as u32);
     }
     bytes
 }
@@ -84,31 +84,19 @@ fn apply_all<S: Mark>(image: &mut S, fills: &[Fill])
     }
 }
 
+/// What the lines ask of the image, as a job.
+#[derive(Drop)]
+struct Fills<'a>(&'a [Fill]);
+
+impl OnImage for Fills<'_> {
+    type Done = ();
+
+    fn perform<S: Mark + Drop>(self, mut image: S) {
+        apply_all(&mut image, self.0);
+    }
+}
+
 /// Fills the image and marks its blocks, protected or not. An image that is refused has no blocks to fill.
 pub(super) fn prepare(medium: &mut Medium, fills: &[Fill]) {
-    match medium {
-        Medium::Flat { bytes, damage } => {
-            if let Ok(mut image) = FlatImage::open(
-                bytes.as_mut_slice(),
-                damage.as_mut_slice(),
-                Protection::Open,
-            ) {
-                apply_all(&mut image, fills);
-            }
-        }
-        Medium::Raw {
-            bytes,
-            spares,
-            records,
-        } => {
-            if let Ok(mut image) = RawImage::open(
-                bytes.as_mut_slice(),
-                spares.as_slice(),
-                *records,
-                Protection::Open,
-            ) {
-                apply_all(&mut image, fills);
-            }
-        }
-    }
+    let _ = medium.open(Protection::Open, Fills(fills));
 }

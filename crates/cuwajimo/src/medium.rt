@@ -1,14 +1,15 @@
 ghost use Rattle.std.specs.Prelude.{◌≡◌, IfOk, if◌then◌else◌, Some, None, nat_le};
 ghost use Rattle.cuwajimo.specs.Media.{ZeroFlat, capped_bytes, ZeroRaw, medium_count};
 
+use super::fill::Mark;
 use super::plan::Source;
-use super::trouble::{Spot, Trouble};
+use super::trouble::Trouble;
+use flat::flat::FlatImage;
+use image::check::BLOCK_LIMIT;
+use image::refusal::Refusal;
+use raw::raw::RawImage;
 use std::alloc::Global;
-use std::fs;
-use store::fault::BLOCK_BYTES;
-
-/// How many blocks an image may have.
-const MOST_BLOCKS: u32 = 4_194_304;
+use store::fault::{BLOCK_BYTES, Protection};
 
 /// How many bytes a record of a raw image has, and how many records a track may have.
 const RECORD_BYTES: usize = 276;
@@ -35,7 +36,7 @@ fn flat(heap: Global, blocks: u32) -> Result<Medium, Trouble>
     ensures memory { IfOk result (ZeroFlat blocks) }
     ensures count { IfOk result (λ m. medium_count m ≡ (if nat_le blocks 4194304 then Some blocks else None)) }
 {
-    if blocks > MOST_BLOCKS {
+    if blocks as usize > BLOCK_LIMIT {
         return Ok(Medium::Flat {
             bytes: vec![in heap]?,
             damage: vec![in heap; 0u8; 1]?,
@@ -72,46 +73,69 @@ fn raw(heap: Global, records: u32, places: &[u8]) -> Result<Medium, Trouble>
     })
 }
 
-/// What a file holds.
-fn contents(rt: &HostRuntime, line: u32, path: &str) -> Result<Vec<u8>, Trouble> {
-    match fs::read(rt, path) {
-        Ok(bytes) => Ok(bytes),
-        Err(e) => Err(Spot {
-            heap: rt.alloc(),
-            line,
-        }
-        .file("cannot read", path, e)),
-    }
-}
-
 /// Brings the image into memory.
 pub(super) fn load(rt: &HostRuntime, source: &Source) -> Result<Medium, Trouble> {
     match source {
         Source::Flat { blocks } => flat(rt.alloc(), *blocks),
-        Source::FlatFiles {
-            line,
-            bytes,
-            damage,
-        } => {
-            let bytes = contents(rt, *line, bytes.as_str())?;
+        Source::FlatFiles { bytes, damage } => {
+            let bytes = bytes.contents(rt)?;
             Ok(Medium::Flat {
                 bytes,
-                damage: contents(rt, *line, damage.as_str())?,
+                damage: damage.contents(rt)?,
             })
         }
         Source::Raw { records, spares } => raw(rt.alloc(), *records, spares.as_slice()),
         Source::RawFiles {
-            line,
             bytes,
             spares,
             records,
         } => {
-            let bytes = contents(rt, *line, bytes.as_str())?;
+            let bytes = bytes.contents(rt)?;
             Ok(Medium::Raw {
                 bytes,
-                spares: contents(rt, *line, spares.as_str())?,
+                spares: spares.contents(rt)?,
                 records: *records,
             })
+        }
+    }
+}
+
+/// What is done with an image while it stands, of whichever kind it is.
+pub(super) trait OnImage {
+    type Done;
+
+    fn perform<S: Mark + Drop>(self, image: S) -> Self::Done;
+}
+
+impl Medium {
+    /// Opens the image and does the job on it, or says why it is refused.
+    pub(super) fn open<J: OnImage + Drop>(
+        &mut self,
+        protection: Protection,
+        job: J,
+    ) -> Result<J::Done, Refusal> {
+        match self {
+            Medium::Flat { bytes, damage } => {
+                let image = FlatImage::open(
+                    bytes.as_mut_slice(),
+                    damage.as_mut_slice(),
+                    protection,
+                )?;
+                Ok(job.perform(image))
+            }
+            Medium::Raw {
+                bytes,
+                spares,
+                records,
+            } => {
+                let image = RawImage::open(
+                    bytes.as_mut_slice(),
+                    spares.as_slice(),
+                    *records,
+                    protection,
+                )?;
+                Ok(job.perform(image))
+            }
         }
     }
 }

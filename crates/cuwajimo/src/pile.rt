@@ -3,28 +3,19 @@ ghost use Rattle.layer.specs.Guards.{guarded};
 ghost use Rattle.layer.specs.Windows.{windowed};
 ghost use Rattle.cuwajimo.specs.Plans.{layers, NoLayer};
 
-use super::case::Case;
+use super::case::CaseRun;
+use super::fill::Mark;
 use super::fnv::fnv1a;
-use super::medium::Medium;
+use super::medium::{Medium, OnImage};
 use super::plan::Plan;
-use super::session::{Ended, Outcome, serve};
+use super::session::{Ended, Outcome};
 use super::trouble::Trouble;
 use cache::cache::Cache;
-use flat::flat::FlatImage;
-use image::refusal::Refusal;
 use layer::guard::WriteGuard;
 use layer::window::Window;
-use raw::raw::RawImage;
 use store::calls::fetch_block;
 use store::fault::Protection;
 use store::store::Store;
-
-/// What is done with the pile while it stands: a device over it answers the calls before `off`, or its blocks are shown.
-#[derive(Clone, Copy)]
-pub enum Job {
-    Serve,
-    Show { first: u32, count: u32 },
-}
 
 /// Shows one block of a store.
 fn show_block<S: Store>(rt: &HostRuntime, store: &mut S, block: u32) -> Result<(), Trouble> {
@@ -47,29 +38,50 @@ fn show_block<S: Store>(rt: &HostRuntime, store: &mut S, block: u32) -> Result<(
 }
 
 /// Shows so many blocks from the first on. A number past what counts blocks is beyond every store.
-fn show<S: Store>(rt: &HostRuntime, store: &mut S, first: u32, count: u32) -> Result<(), Trouble> {
-    for k in 0..count {
-        match first.checked_add(k) {
-            Some(block) => show_block(rt, store, block)?,
-            None => println!(rt; "block {}: beyond", u64::from(first) + u64::from(k))?,
+fn show_blocks<S: Store>(
+    rt: &HostRuntime,
+    store: &mut S,
+    first: u32,
+    count: u32,
+) -> Result<(), Trouble> {
+    let first = u64::from(first);
+    for block in first..first + u64::from(count) {
+        match u32::try_from(block) {
+            Ok(block) => show_block(rt, store, block)?,
+            Err(_) => println!(rt; "block {block}: beyond")?,
         }
     }
     Ok(())
 }
 
-/// Does the job on the whole pile, and hands it back.
-fn perform<S: Store>(rt: &HostRuntime, case: &Case, mut store: S, job: Job) -> Ended<S> {
-    match job {
-        Job::Serve => serve(rt, case, store),
-        Job::Show { first, count } => {
-            let shown = show(rt, &mut store, first, count);
-            Ended {
-                store,
-                outcome: match shown {
-                    Ok(()) => Ok(Outcome::Served),
-                    Err(trouble) => Err(trouble),
-                },
-            }
+/// What is done with a pile while it stands. The pile is handed back.
+pub(super) trait Job {
+    fn perform<S: Store>(&self, run: CaseRun<'_>, store: S) -> Ended<S>;
+}
+
+/// A device over the pile answers the calls before `off`.
+#[derive(Clone, Copy)]
+pub(super) struct Serve;
+
+impl Job for Serve {
+    fn perform<S: Store>(&self, run: CaseRun<'_>, store: S) -> Ended<S> {
+        run.serve(store)
+    }
+}
+
+/// Blocks of the pile are shown.
+#[derive(Clone, Copy)]
+pub(super) struct Show {
+    pub(super) first: u32,
+    pub(super) count: u32,
+}
+
+impl Job for Show {
+    fn perform<S: Store>(&self, run: CaseRun<'_>, mut store: S) -> Ended<S> {
+        let shown = show_blocks(run.rt, &mut store, self.first, self.count);
+        Ended {
+            store,
+            outcome: shown.map(|_| Outcome::Served),
         }
     }
 }
@@ -79,66 +91,46 @@ fn layered<S: Store>(plan: &Plan, image: S) -> WriteGuard<Window<S>>
     ensures exact { result ≡ layers plan.now image }
     ensures plain { NoLayer plan.now → guarded (windowed S.Store.blocks) result ≡ S.Store.blocks image }
 {
-    let shown = plan.shown();
-    let guarded = plan.guarded();
-    WriteGuard::new(
-        Window::new(image, shown.first, shown.count),
-        guarded.first,
-        guarded.count,
-    )
+    WriteGuard::new(Window::new(image, plan.shown()), plan.guarded())
 }
 
-/// Does the job on the plan's whole pile over its image: window, write guard and, if it asks for one, a cache.
-fn on_image<S: Store + Drop>(
-    rt: &HostRuntime,
-    case: &Case,
-    image: S,
-    job: Job,
-) -> Result<Outcome, Trouble> {
-    let below = layered(&case.plan, image);
-    if !case.plan.cache {
-        let Ended { store, outcome } = perform(rt, case, below, job);
-        drop(store);
-        return outcome;
+/// A job on the case's whole pile over an image: window, write guard and, if its plan asks for one, a cache.
+#[derive(Drop)]
+struct OverImage<'a, J> {
+    run: CaseRun<'a>,
+    job: J,
+}
+
+impl<J: Job + Drop> OnImage for OverImage<'_, J> {
+    type Done = Result<Outcome, Trouble>;
+
+    fn perform<S: Mark + Drop>(self, image: S) -> Result<Outcome, Trouble> {
+        let plan = &self.run.case.plan;
+        let below = layered(plan, image);
+        if !plan.cache {
+            let Ended { store, outcome } = self.job.perform(self.run, below);
+            drop(store);
+            return outcome;
+        }
+        let Ended { store, outcome } = self.job.perform(self.run, Cache::new(below));
+        drop(store.release());
+        outcome
     }
-    let Ended { store, outcome } = perform(rt, case, Cache::new(below), job);
-    drop(store.release());
-    outcome
 }
 
-fn refuse(rt: &HostRuntime, refusal: Refusal) -> Result<Outcome, Trouble> {
-    println!(rt; "image: refused {refusal}")?;
-    Ok(Outcome::Refused)
-}
-
-/// Does a job on the pile that the plan asks for, or says why its image is refused.
-pub(super) fn on_pile(
-    rt: &HostRuntime,
-    case: &Case,
-    medium: &mut Medium,
-    job: Job,
-) -> Result<Outcome, Trouble> {
-    match medium {
-        Medium::Flat { bytes, damage } => match FlatImage::open(
-            bytes.as_mut_slice(),
-            damage.as_mut_slice(),
-            case.plan.protection,
-        ) {
-            Ok(image) => on_image(rt, case, image, job),
-            Err(refusal) => refuse(rt, refusal),
-        },
-        Medium::Raw {
-            bytes,
-            spares,
-            records,
-        } => match RawImage::open(
-            bytes.as_mut_slice(),
-            spares.as_slice(),
-            *records,
-            case.plan.protection,
-        ) {
-            Ok(image) => on_image(rt, case, image, job),
-            Err(refusal) => refuse(rt, refusal),
-        },
+impl CaseRun<'_> {
+    /// Does a job on the pile that the plan asks for, or says why its image is refused.
+    pub(super) fn on_pile<J: Job + Drop>(
+        self,
+        medium: &mut Medium,
+        job: J,
+    ) -> Result<Outcome, Trouble> {
+        match medium.open(self.case.plan.protection, OverImage { run: self, job }) {
+            Ok(outcome) => outcome,
+            Err(refusal) => {
+                println!(self.rt; "image: refused {refusal}")?;
+                Ok(Outcome::Refused)
+            }
+        }
     }
 }

@@ -1,35 +1,11 @@
 ghost use Rattle.std.specs.Prelude.{◌≡◌};
-ghost use Rattle.cuwajimo.specs.Plans.{no_blocks, all_blocks, shown_run, guarded_run, NothingAsked};
+ghost use Rattle.cuwajimo.specs.Plans.{shown_run, guarded_run, NothingAsked};
 
+use super::files::ImageFile;
 use flex::unit::Unit;
+use layer::run::Run;
 use std::alloc::Global;
 use store::fault::Protection;
-
-/// A run of blocks, for a window or a write guard.
-#[derive(Clone, Copy)]
-pub struct Run {
-    pub first: u32,
-    pub count: u32,
-}
-
-impl Run {
-    /// No block: a write guard on it protects nothing more.
-    pub(super) fn none() -> Run
-        ensures { result ≡ no_blocks }
-    {
-        Run { first: 0, count: 0 }
-    }
-
-    /// Every block that a store can have: a window on it shows the whole store.
-    pub(super) fn whole() -> Run
-        ensures { result ≡ all_blocks }
-    {
-        Run {
-            first: 0,
-            count: u32::MAX,
-        }
-    }
-}
 
 /// Where the image comes from.
 #[derive(Drop)]
@@ -40,9 +16,8 @@ pub enum Source {
     },
     /// a flat image in two files, the blocks and the damage map
     FlatFiles {
-        line: u32,
-        bytes: String,
-        damage: String,
+        bytes: ImageFile,
+        damage: ImageFile,
     },
     /// a raw image in memory
     Raw {
@@ -51,9 +26,8 @@ pub enum Source {
     },
     /// a raw image in two files, the records and the spare places
     RawFiles {
-        line: u32,
-        bytes: String,
-        spares: String,
+        bytes: ImageFile,
+        spares: ImageFile,
         records: u32,
     },
 }

@@ -1,25 +1,12 @@
 use super::call::{Act, Call};
-use super::case::Case;
+use super::case::{Case, CaseRun};
 use super::fill::prepare;
 use super::medium::{Medium, load};
-use super::pile::{Job, on_pile};
+use super::pile::{Serve, Show};
 use super::plan::Source;
 use super::say;
 use super::session::Outcome;
 use super::trouble::{Spot, Trouble};
-use std::fs;
-
-/// That a file can be opened, before anything is done.
-fn check_file(rt: &HostRuntime, line: u32, path: &str) -> Result<(), Trouble> {
-    match fs::open(rt, path) {
-        Ok(_) => Ok(()),
-        Err(e) => Err(Spot {
-            heap: rt.alloc(),
-            line,
-        }
-        .file("cannot open", path, e)),
-    }
-}
 
 /// That the files of every case can be opened.
 pub(super) fn check_files(rt: &HostRuntime, cases: &[Case]) -> Result<(), Trouble> {
@@ -27,24 +14,17 @@ pub(super) fn check_files(rt: &HostRuntime, cases: &[Case]) -> Result<(), Troubl
         match &case.plan.source {
             Some(
                 Source::FlatFiles {
-                    line,
                     bytes,
-                    damage,
-                },
-            ) => {
-                check_file(rt, *line, bytes.as_str())?;
-                check_file(rt, *line, damage.as_str())?;
-            }
-            Some(
-                Source::RawFiles {
-                    line,
+                    damage: beside,
+                }
+                | Source::RawFiles {
                     bytes,
-                    spares,
+                    spares: beside,
                     records: _,
                 },
             ) => {
-                check_file(rt, *line, bytes.as_str())?;
-                check_file(rt, *line, spares.as_str())?;
+                bytes.check(rt)?;
+                beside.check(rt)?;
             }
             _ => {}
         }
@@ -52,35 +32,21 @@ pub(super) fn check_files(rt: &HostRuntime, cases: &[Case]) -> Result<(), Troubl
     Ok(())
 }
 
-/// Writes a file.
-fn write_file(rt: &HostRuntime, line: u32, path: &str, bytes: &[u8]) -> Result<(), Trouble> {
-    match fs::write(rt, path, bytes) {
-        Ok(()) => Ok(()),
-        Err(e) => Err(Spot {
-            heap: rt.alloc(),
-            line,
-        }
-        .file("cannot write", path, e)),
-    }
-}
-
 /// Writes the image back to the files that it came from. A raw image's spare places never change.
 fn save(rt: &HostRuntime, line: u32, source: &Source, medium: &Medium) -> Result<(), Trouble> {
     match (source, medium) {
         (
             Source::FlatFiles {
-                line: _,
                 bytes: to,
                 damage: map,
             },
             Medium::Flat { bytes, damage },
         ) => {
-            write_file(rt, line, to.as_str(), bytes.as_slice())?;
-            write_file(rt, line, map.as_str(), damage.as_slice())?;
+            to.write(rt, line, bytes.as_slice())?;
+            map.write(rt, line, damage.as_slice())?;
         }
         (
             Source::RawFiles {
-                line: _,
                 bytes: to,
                 spares: _,
                 records: _,
@@ -90,9 +56,7 @@ fn save(rt: &HostRuntime, line: u32, source: &Source, medium: &Medium) -> Result
                 spares: _,
                 records: _,
             },
-        ) => {
-            write_file(rt, line, to.as_str(), bytes.as_slice())?;
-        }
+        ) => to.write(rt, line, bytes.as_slice())?,
         _ => {
             println!(rt; "save: no file")?;
             return Ok(());
@@ -102,77 +66,67 @@ fn save(rt: &HostRuntime, line: u32, source: &Source, medium: &Medium) -> Result
     Ok(())
 }
 
-/// One call after the device is off.
-fn answer_off(
-    rt: &HostRuntime,
-    case: &Case,
-    source: &Source,
-    medium: &mut Medium,
-    call: &Call,
-) -> Result<(), Trouble> {
-    match &call.act {
-        Act::Blocks { first, count } => {
-            let first = *first;
-            let count = *count;
-            on_pile(rt, case, medium, Job::Show { first, count })?;
-            Ok(())
+impl CaseRun<'_> {
+    /// One call after the device is off.
+    fn answer_off(self, source: &Source, medium: &mut Medium, call: &Call) -> Result<(), Trouble> {
+        match &call.act {
+            Act::Blocks { first, count } => {
+                let first = *first;
+                let count = *count;
+                self.on_pile(medium, Show { first, count })?;
+                Ok(())
+            }
+            Act::Save => save(self.rt, call.line, source, medium),
+            act => say::nothing(self.rt, act),
         }
-        Act::Save => save(rt, call.line, source, medium),
-        act => say::nothing(rt, act),
     }
-}
 
-/// The calls from the first `off` on, of a case that had a device.
-fn finish(
-    rt: &HostRuntime,
-    case: &Case,
-    source: &Source,
-    medium: &mut Medium,
-) -> Result<(), Trouble> {
-    if !case.off.is_empty() {
-        println!(rt; "off: settled")?;
+    /// The calls from the first `off` on, of a case that had a device.
+    fn finish(self, source: &Source, medium: &mut Medium) -> Result<(), Trouble> {
+        if !self.case.off.is_empty() {
+            println!(self.rt; "off: settled")?;
+        }
+        for call in self.case.off.iter().skip(1) {
+            self.answer_off(source, medium, call)?;
+        }
+        Ok(())
     }
-    for call in case.off.iter().skip(1) {
-        answer_off(rt, case, source, medium, call)?;
-    }
-    Ok(())
-}
 
-/// The calls of a case that has no device.
-fn decline(rt: &HostRuntime, case: &Case) -> Result<(), Trouble> {
-    for call in case.on.iter() {
-        say::nothing(rt, &call.act)?;
+    /// The calls of a case that has no device.
+    fn decline(self) -> Result<(), Trouble> {
+        for call in self.case.on.iter().chain(self.case.off.iter()) {
+            say::nothing(self.rt, &call.act)?;
+        }
+        Ok(())
     }
-    for call in case.off.iter() {
-        say::nothing(rt, &call.act)?;
-    }
-    Ok(())
-}
 
-/// Carries out a case, if it has any call.
-fn run_case(rt: &HostRuntime, case: &Case) -> Result<(), Trouble> {
-    let Some(first) = case.first() else {
-        return Ok(());
-    };
-    let Some(source) = &case.plan.source else {
-        return Err(Spot {
-            heap: rt.alloc(),
+    /// Carries the case out, if it has any call.
+    fn run(self) -> Result<(), Trouble> {
+        let Some(first) = self.case.first() else {
+            return Ok(());
+        };
+        let spot = Spot {
+            heap: self.rt.alloc(),
             line: first.line,
+        };
+        let plan = &self.case.plan;
+        let source = plan
+            .source
+            .as_ref()
+            .ok_or_else(|| spot.trouble("a call, and no image to make it on"))?;
+        let mut medium = load(self.rt, source)?;
+        prepare(&mut medium, plan.fills.as_slice());
+        match self.on_pile(&mut medium, Serve)? {
+            Outcome::Served => self.finish(source, &mut medium),
+            Outcome::Refused => self.decline(),
         }
-        .trouble("a call, and no image to make it on"));
-    };
-    let mut medium = load(rt, source)?;
-    prepare(&mut medium, case.plan.fills.as_slice());
-    match on_pile(rt, case, &mut medium, Job::Serve)? {
-        Outcome::Served => finish(rt, case, source, &mut medium),
-        Outcome::Refused => decline(rt, case),
     }
 }
 
 /// Carries out each case in turn.
 pub(super) fn run(rt: &HostRuntime, cases: &[Case]) -> Result<(), Trouble> {
     for case in cases {
-        run_case(rt, case)?;
+        CaseRun { rt, case }.run()?;
     }
     Ok(())
 }

@@ -1,21 +1,21 @@
 ghost use Rattle.std.specs.Prelude.{◌≡◌};
-ghost use Rattle.cuwajimo.specs.Answers.{kind_of_ticket, what_follows, holds, first_holder};
+ghost use Rattle.cuwajimo.specs.Answers.{phase_word, kind_of_ticket, what_follows, holds, first_holder};
 
 use super::call::Act;
-use super::desk::HOSTS;
 use super::fnv::fnv1a;
 use super::trouble::Trouble;
+use device::controller::HOSTS;
 use device::device::Device;
 use device::ticket::Ticket;
 use flex::status::Status;
+use flex::unit_map::UNITS;
 use host::fault::HostFault;
 use message::parameters::Parameters;
 use store::store::Store;
+use transfer::report::REPORT_BYTES;
 
-/// How many bytes a report has, and how many units can be locked.
-const REPORT_BYTES: usize = 13;
-
-const UNITS: u8 = 15;
+// Each answer is one line, from the runtime to print by, the host and what the call came to. A type of the first two would
+// be made for one call each time: no plainer.
 
 /// `NAME H: refused 4/3`
 pub(super) fn refused(
@@ -48,24 +48,28 @@ pub(super) fn refused_buffer(
     say_buffer(rt, buffer)
 }
 
+/// What a ticket is for: its transaction's segments, for which there is this word, or its report.
+fn phase(ticket: &Ticket, segments: &'static str) -> &'static str
+    ensures { result.now ≡ phase_word ticket.now segments.now }
+{
+    match ticket {
+        Ticket::Execution(_) => segments,
+        Ticket::Report(_) => "report",
+    }
+}
+
 /// What a command's ticket is for.
 pub(super) fn opened(ticket: &Ticket) -> &'static str
     ensures { result.now ≡ kind_of_ticket ticket.now }
 {
-    match ticket {
-        Ticket::Execution(_) => "execution",
-        Ticket::Report(_) => "report",
-    }
+    phase(ticket, "execution")
 }
 
 /// What comes after a segment.
 pub(super) fn follows(ticket: &Ticket) -> &'static str
     ensures { result.now ≡ what_follows ticket.now }
 {
-    match ticket {
-        Ticket::Execution(_) => "more",
-        Ticket::Report(_) => "report",
-    }
+    phase(ticket, "more")
 }
 
 pub(super) fn moved(rt: &HostRuntime, host: u8, next: &str, buffer: &[u8]) -> Result<(), Trouble> {
@@ -122,25 +126,17 @@ enum Lock {
 fn has<S: Store>(device: &Device<S>, host: u8, lock: Lock) -> bool
     ensures { result ≡ holds device.now.controller lock host }
 {
-    match device.locks(host) {
-        Ok(locks) => match lock {
-            Lock::Device => locks.device,
-            Lock::Unit(unit) => locks.has_unit(unit),
-        },
-        Err(_) => false,
-    }
+    device.locks(host).is_ok_and(|locks| match lock {
+        Lock::Device => locks.device,
+        Lock::Unit(unit) => locks.has_unit(unit),
+    })
 }
 
 /// The first host that holds a lock; no two do.
 fn holder<S: Store>(device: &Device<S>, lock: Lock) -> Option<u8>
     ensures { result ≡ first_holder device.now.controller lock }
 {
-    for host in 0..HOSTS {
-        if has(device, host, lock) {
-            return Some(host);
-        }
-    }
-    None
+    (0..HOSTS as u8).find(|host| has(device, *host, lock))
 }
 
 /// `locks: device none units 0=1 3=2`
@@ -150,7 +146,7 @@ pub(super) fn locks<S: Store>(rt: &HostRuntime, device: &Device<S>) -> Result<()
         None => print!(rt; "locks: device none units")?,
     }
     let mut any = false;
-    for unit in 0..UNITS {
+    for unit in 0..UNITS as u8 {
         if let Some(host) = holder(device, Lock::Unit(unit)) {
             print!(rt; " {unit}={host}")?;
             any = true;
@@ -166,10 +162,9 @@ pub(super) fn locks<S: Store>(rt: &HostRuntime, device: &Device<S>) -> Result<()
 
 /// What a call prints for which there is no device, or no store.
 pub(super) fn nothing(rt: &HostRuntime, act: &Act) -> Result<(), Trouble> {
-    let name = act.name();
     match act {
-        Act::Blocks { first: _, count: _ } | Act::Save => println!(rt; "{name}: no store")?,
-        _ => println!(rt; "{name}: no device")?,
+        Act::Blocks { first: _, count: _ } | Act::Save => println!(rt; "{act}: no store")?,
+        _ => println!(rt; "{act}: no device")?,
     }
     Ok(())
 }

@@ -1,9 +1,9 @@
 ghost use Rattle.std.specs.Prelude.{◌≡◌};
 ghost use Rattle.cuwajimo.specs.Lines.{before_comment};
 
-use super::build;
 use super::call::read_call;
 use super::case::Case;
+use super::line::Line;
 use super::trouble::{Spot, Trouble};
 use std::alloc::Global;
 
@@ -11,21 +11,23 @@ use std::alloc::Global;
 fn statement(line: &str) -> &str
     ensures { result.now ≡ before_comment line.now }
 {
-    match line.split_once('#') {
-        Some((before, _)) => before,
-        None => line,
-    }
+    let Some((before, _)) = line.split_once('#') else {
+        return line;
+    };
+    before
 }
 
 /// Adds what one line says to the case that is being read.
-fn read_line(spot: Spot, case: &mut Case, line: &str) -> Result<(), Trouble> {
-    match read_call(spot, line)? {
+fn read_line(line: Line<'_>, case: &mut Case) -> Result<(), Trouble> {
+    match read_call(line)? {
         Some(call) => case.add(call),
-        None if case.first().is_none() => build::read(spot, &mut case.plan, line),
-        None => Err(spot.about(
-            "no call, and what builds stands before the first call:",
-            line.trim(),
-        )),
+        None if case.first().is_none() => case.plan.read(line),
+        None => Err(
+            line.spot.about(
+                "no call, and what builds stands before the first call:",
+                line.text,
+            ),
+        ),
     }
 }
 
@@ -33,15 +35,17 @@ fn read_line(spot: Spot, case: &mut Case, line: &str) -> Result<(), Trouble> {
 pub(super) fn cases(heap: Global, text: &str) -> Result<Vec<Case>, Trouble> {
     let mut cases = Vec::new(heap);
     let mut case = Case::new(heap);
+    // `enumerate` would be no plainer: each number would be one less, of another width, and turned by two more calls
     let mut line = 0u32;
     for whole in text.lines() {
         line = line.saturating_add(1);
-        let said = statement(whole).trim();
-        if said == "reset" {
+        let text = statement(whole).trim();
+        if text == "reset" {
             cases.push(case)?;
             case = Case::new(heap);
-        } else if !said.is_empty() {
-            read_line(Spot { heap, line }, &mut case, said)?;
+        } else if !text.is_empty() {
+            let spot = Spot { heap, line };
+            read_line(Line { spot, text }, &mut case)?;
         }
     }
     cases.push(case)?;

@@ -57,42 +57,32 @@ pub struct Spot {
 }
 
 impl Spot {
+    /// The trouble with this line, in words that there may be no memory for.
+    fn said(self, what: Result<String, AllocError>) -> Trouble
+        ensures { Blames self.line result }
+    {
+        let line = self.line;
+        what.map_or_else(Trouble::from, |what| Trouble::Line { line, what })
+    }
+
     /// The trouble with this line, in these words.
     pub(super) fn trouble(self, what: &str) -> Trouble
         ensures { Blames self.line result }
     {
-        match String::from_str(self.heap, what) {
-            Ok(what) => Trouble::Line {
-                line: self.line,
-                what,
-            },
-            Err(_) => Trouble::Memory,
-        }
+        self.said(String::from_str(self.heap, what))
     }
 
     /// The trouble with this line, about a word of it.
     pub(super) fn about(self, what: &str, word: &str) -> Trouble
         ensures { Blames self.line result }
     {
-        match format!(in self.heap; "{what} '{word}'") {
-            Ok(what) => Trouble::Line {
-                line: self.line,
-                what,
-            },
-            Err(_) => Trouble::Memory,
-        }
+        self.said(format!(in self.heap; "{what} '{word}'"))
     }
 
     /// A file that could not be read or written.
     pub(super) fn file(self, what: &str, path: &str, error: io::Error) -> Trouble
         ensures { Blames self.line result }
     {
-        match format!(in self.heap; "{what} '{path}': {error}") {
-            Ok(what) => Trouble::Line {
-                line: self.line,
-                what,
-            },
-            Err(_) => Trouble::Memory,
-        }
+        self.said(format!(in self.heap; "{what} '{path}': {error}"))
     }
 }

@@ -1,66 +1,95 @@
-ghost use Rattle.std.specs.Prelude.{◌≡◌, ◌^◌, not, is_some, is_ok};
+ghost use Rattle.std.specs.Prelude.{◌≡◌, ◌^◌, ℕ, List, Result, not, is_some, is_ok};
 ghost use Rattle.std.specs.Option.{option_map};
 ghost use Rattle.std.specs.Result.{result_ok};
+ghost use Rattle.cuwajimo.specs.Numerals.{read_below};
 ghost use Rattle.cuwajimo.specs.Troubles.{Blamed};
 ghost use Rattle.cuwajimo.specs.Words.{number_below, number_in, hex_digit, HexAdded};
 
 use super::trouble::{Spot, Trouble};
+use std::num::ParseIntError;
+use std::str::FromStr;
 
-/// A word that has to be there.
-pub(super) fn word<'a>(spot: Spot, next: Option<&'a str>) -> Result<&'a str, Trouble>
-    ensures value { option_map (λ x. x.now) (result_ok result) ≡ option_map (λ x. x.now) next.entry }
-    ensures line { Blamed spot.line result }
-{
-    match next {
-        Some(word) => Ok(word),
-        None => Err(spot.trouble("a word is missing")),
-    }
+/// A number that a word may stand for, of the width that its field has.
+pub(super) trait Numeral: FromStr<Err = ParseIntError> + Drop {
+    // The number that a value is.
+    ghost number: { Self → ℕ };
+
+    // What each is below.
+    ghost limit: { ℕ };
+
+    /// What is said of a word that is no such number.
+    const REFUSAL: &'static str;
+
+    // A word is read as the decimal number that it writes, where that is below the limit.
+    ghost reads: { (word : List ℕ) (r : _) → Self.FromStr.from_str_gives word r → option_map number (result_ok r) ≡ number_below limit word };
 }
 
-/// A decimal number that fits.
-pub(super) fn number(spot: Spot, next: Option<&str>) -> Result<u32, Trouble>
-    ensures value { result_ok result ≡ number_in (2 ^ 32) (option_map (λ x. x.now) next.entry) }
-    ensures line { Blamed spot.line result }
-{
-    let word = word(spot, next)?;
-    match word.parse::<u32>() {
-        Ok(n) => Ok(n),
-        Err(_) => Err(spot.about("not a number that fits:", word)),
-    }
+impl Numeral for u32 {
+    ghost number = { λ n. n };
+
+    ghost limit = { 4294967296 };
+
+    const REFUSAL: &'static str = "not a number that fits:";
+
+    ghost reads = { λ word r h. read_below 32 word r h.0 };
 }
 
-/// A decimal number that fits two bytes.
-pub(super) fn short(spot: Spot, next: Option<&str>) -> Result<u16, Trouble>
-    ensures value { result_ok result ≡ number_in (2 ^ 16) (option_map (λ x. x.now) next.entry) }
-    ensures line { Blamed spot.line result }
-{
-    let word = word(spot, next)?;
-    match word.parse::<u16>() {
-        Ok(n) => Ok(n),
-        Err(_) => Err(spot.about("not a number from 0 to 65535:", word)),
-    }
+impl Numeral for u16 {
+    ghost number = { λ n. n };
+
+    ghost limit = { 65536 };
+
+    const REFUSAL: &'static str = "not a number from 0 to 65535:";
+
+    ghost reads = { λ word r h. read_below 16 word r h.0 };
 }
 
-/// A decimal number that fits a byte.
-pub(super) fn byte(spot: Spot, next: Option<&str>) -> Result<u8, Trouble>
-    ensures value { result_ok result ≡ number_in (2 ^ 8) (option_map (λ x. x.now) next.entry) }
-    ensures line { Blamed spot.line result }
-{
-    let word = word(spot, next)?;
-    match word.parse::<u8>() {
-        Ok(n) => Ok(n),
-        Err(_) => Err(spot.about("not a number from 0 to 255:", word)),
-    }
+impl Numeral for u8 {
+    ghost number = { λ n. n };
+
+    ghost limit = { 256 };
+
+    const REFUSAL: &'static str = "not a number from 0 to 255:";
+
+    ghost reads = { λ word r h. read_below 8 word r h.0 };
 }
 
-/// Nothing more may stand on the line.
-pub(super) fn end(spot: Spot, next: Option<&str>) -> Result<(), Trouble>
-    ensures value { is_ok result ≡ not (is_some next.entry) }
-    ensures line { Blamed spot.line result }
-{
-    match next {
-        None => Ok(()),
-        Some(word) => Err(spot.about("a word too many:", word)),
+/// A word of a line, or the place where none stands, and the line.
+#[derive(Clone, Copy)]
+pub struct Word<'a> {
+    pub(super) spot: Spot,
+    pub(super) text: Option<&'a str>,
+}
+
+impl<'a> Word<'a> {
+    /// The word, which has to be there.
+    pub(super) fn required(self) -> Result<&'a str, Trouble>
+        ensures value { option_map (λ x. x.now) (result_ok result) ≡ option_map (λ x. x.now) self.entry.text }
+        ensures line { Blamed self.entry.spot.line result }
+    {
+        self.text
+            .ok_or_else(|| self.spot.trouble("a word is missing"))
+    }
+
+    /// The word, which has to be a decimal number of its field's width.
+    pub(super) fn number<T: Numeral>(self) -> Result<T, Trouble>
+        ensures value { option_map T.number (result_ok result) ≡ number_in T.limit (option_map (λ x. x.now) self.entry.text) }
+        ensures line { Blamed self.entry.spot.line result }
+    {
+        let word = self.required()?;
+        word.parse::<T>()
+            .map_err(|_| self.spot.about(T::REFUSAL, word))
+    }
+
+    /// No word may be there.
+    pub(super) fn absent(self) -> Result<(), Trouble>
+        ensures value { is_ok result ≡ not (is_some self.entry.text) }
+        ensures line { Blamed self.entry.spot.line result }
+    {
+        match self.text {
+            None => Ok(()),
+            Some(word) => Err(self.spot.about("a word too many:", word)),
+        }
     }
 }
 
@@ -71,25 +100,16 @@ pub(super) fn is_number(word: &str) -> bool
     word.parse::<u32>().is_ok()
 }
 
-/// The word after so many.
-pub(super) fn nth(line: &str, before: usize) -> Option<&str> {
-    line.split_whitespace().skip(before).next()
-}
-
 /// What a hexadecimal digit stands for, or none.
 fn digit(letter: u8) -> Option<u8>
     ensures { result ≡ hex_digit letter }
 {
-    match letter {
-        b'0'..=b'9' => Some(letter - b'0'),
-        b'a'..=b'f' => Some(letter - b'a' + 10),
-        b'A'..=b'F' => Some(letter - b'A' + 10),
-        _ => None,
-    }
+    let digit = char::from(letter).to_digit(16)?;
+    Some(digit as u8)
 }
 
 /// Adds a word's bytes, two hexadecimal digits each.
-fn add_hex(spot: Spot, bytes: &mut Vec<u8>, word: &str) -> Result<(), Trouble>
+pub(super) fn add_hex(spot: Spot, bytes: &mut Vec<u8>, word: &str) -> Result<(), Trouble>
     ensures { HexAdded word.now bytes.old.items bytes.new.items result }
 {
     let mut high = None;
@@ -109,13 +129,4 @@ fn add_hex(spot: Spot, bytes: &mut Vec<u8>, word: &str) -> Result<(), Trouble>
         None => Ok(()),
         Some(_) => Err(spot.about("an odd number of hexadecimal digits:", word)),
     }
-}
-
-/// The bytes that stand in hexadecimal digits after so many words.
-pub(super) fn hex(spot: Spot, line: &str, before: usize) -> Result<Vec<u8>, Trouble> {
-    let mut bytes = Vec::new(spot.heap);
-    for word in line.split_whitespace().skip(before) {
-        add_hex(spot, &mut bytes, word)?;
-    }
-    Ok(bytes)
 }

@@ -1,21 +1,24 @@
 -- A segment of an open transaction, step by step.
-use Rattle.std.proofs.Common.{◌≡◌, ℕ, List, Some, None, Ok, Err, Option, sym, refl, ap, ◌∙◌, arith}
+use Rattle.std.proofs.Common.{◌≡◌, ℕ, Bool, true, false, cond, nat_lt, List, Some, None, Ok, Err, Option, sym, refl, ap, ◌∙◌, arith}
+use Rattle.std.specs.Option.{option_map}
 use Rattle.std.proofs.lemmas.Bool.Decides.{nat_tests}
+use Rattle.std.proofs.lemmas.List.{set-get_or}
 use Rattle.store.specs.Blocks.{Block}
 use Rattle.flex.specs.declared.status.Status.{Status}
 use Rattle.host.specs.declared.progress.Progress.{Progress}
 use Rattle.host.specs.declared.transaction.Phase.{Phase}
 use Rattle.host.specs.declared.transaction.Phase.TheVariants as phases
 use Rattle.host.specs.declared.transaction.Transaction.{Transaction}
-use Rattle.host.specs.Hosts.{host_at}
-use Rattle.host.specs.Waits.{mail_at}
+use Rattle.host.specs.Hosts.{blank, host_at}
+use Rattle.host.specs.Waits.{mail_at, silent}
 use Rattle.transfer.specs.Segments.{start_of, laid, Moved, moved_over, refusal_of, progress_by, buffer_by, blocks_by}
 use Rattle.device.specs.declared.controller.Controller.{Controller}
-use Rattle.device.specs.declared.table.Known.{Known}
 use Rattle.device.specs.declared.ticket.ExecutionTicket.{ExecutionTicket}
+use Rattle.device.specs.declared.ticket.Pass.{Pass}
 use Rattle.device.specs.declared.ticket.Ticket.TheVariants as tickets
 use Rattle.device.specs.Calls.{segment, moved, returned}
-use Rattle.device.specs.Device.{state_of, after, known_at, fitting, with_host, gone_on}
+use Rattle.device.specs.Callers.{pass_on, borne}
+use Rattle.device.specs.Device.{Known, state_of, after, fitting, with_waits, gone_on}
 use Rattle.device.proofs.Segmented.{segmented_by}
 
 -- A segment that is moved was not refused, and one that is refused has that status.
@@ -32,46 +35,60 @@ pub fitting_is : (n d : ℕ) (p : Phase) (o : Option Transaction) (t : Transacti
 fitting_is n d p None t e = grind (arith, nat_tests)
 fitting_is n d p (Some u) t e = grind (arith, nat_tests)
 
-known_is : (c : Controller) (h : ℕ) (k : Known) → known_at c h ≡ Some k → k ≡ record { host = host_at c.hosts h; mail = mail_at c.mail h }
-known_is c h k e = grind (arith, nat_tests)
+fitted_is : (k₀ : Known) (o : Option Transaction) (k : Known) (t : Transaction) → ◌≡◌ {A = Option (Known × Transaction)} (Some (k, t)) (option_map (λ u. (k₀, u)) o) → (k ≡ k₀) × (o ≡ Some t)
+fitted_is k₀ None k t e = absurd (let z : ◌≡◌ {A = ℕ} 0 1 = cc in omega arith)
+fitted_is k₀ (Some u) k t e = let p : ◌≡◌ {A = Known × Transaction} (k, t) (k₀, u) = cc in (ap (λ (z : Known × Transaction). z.0) p, ap (λ (z : Known × Transaction). Some z.1) (sym p))
 
-module _ (c : Controller) (bs : List Block) (k : ExecutionTicket) (buffer : List ℕ) (t : Transaction) (known : Known) (here : known_at c k.host ≡ Some known) (fits : fitting c.number k.device phases.Execution known.host.transaction ≡ Some t) where
+there_is : (b : Bool) (x : Option (Known × Transaction)) (y : Known × Transaction) → Some y ≡ cond b x None → Some y ≡ x
+there_is true x y e = e
+there_is false x y e = absurd (let z : ◌≡◌ {A = ℕ} 0 1 = cc in omega arith)
+
+-- What is kept of a host that is found.
+abbrev kept : Controller → ℕ → Known
+kept c h = record { host = host_at c.hosts h; mail = mail_at c.mail h }
+
+-- `was` and `c` are the controller before and after the ticket is looked up; `k` bears `pass`.
+module _ (was c : Controller) (left : c ≡ was) (bs : List Block) (k : ExecutionTicket) (pass : Pass) (bears : pass ≡ pass_on (tickets.Execution k)) (buffer : List ℕ) (t : Transaction) (known : Known) (borne_by : ◌≡◌ {A = Option (Known × Transaction)} (Some (known, t)) (borne was pass)) where
+  here : ◌≡◌ {A = Option (Known × Transaction)} (Some (known, t)) (borne c (pass_on (tickets.Execution k)))
+  here = borne_by ∙ ap (λ (d : Controller). borne d pass) (sym left) ∙ ap (borne c) bears
+
   abbrev why : Option Status
   why = refusal_of c.map t buffer
 
   abbrev comes_to : Moved
   comes_to = moved_over c.map bs t buffer
 
-  its : known ≡ record { host = host_at c.hosts k.host; mail = mail_at c.mail k.host }
-  its = known_is c k.host known here
-
-  fitted : fitting c.number k.device phases.Execution (host_at c.hosts k.host).transaction ≡ Some t
-  fitted = ap (λ (z : Known). fitting c.number k.device phases.Execution z.host.transaction) (sym its) ∙ fits
+  found : (known ≡ kept c k.host) × (fitting c.number k.device phases.Execution (host_at c.hosts k.host).transaction ≡ Some t)
+  found = fitted_is (kept c k.host) _ known t (there_is (nat_lt k.host 8) _ (known, t) here)
 
   opened : (host_at c.hosts k.host).transaction ≡ Some t
-  opened = fitting_is c.number k.device phases.Execution (host_at c.hosts k.host).transaction t fitted
+  opened = fitting_is c.number k.device phases.Execution (host_at c.hosts k.host).transaction t found.1
 
   moved_on : why ≡ None → (moved (gone_on c k.host known t comes_to.progress).0 comes_to.buffer, state_of (gone_on c k.host known t comes_to.progress).1 (laid bs (start_of c.map (Some t)) comes_to.put)) ≡ after (state_of c bs) (segment k buffer)
-  moved_on y = rw its (rw (fitted, segmented_by, y, opened) refl)
+  moved_on y = rw found.0 (rw (found.1, segmented_by, y, opened) refl)
 
-  stays : (s : Status) → why ≡ Some s → (returned s (tickets.Execution k) buffer, state_of (with_host c k.host known) bs) ≡ after (state_of c bs) (segment k buffer)
-  stays s y = rw its (rw (fitted, segmented_by, y) refl)
+  stays : (s : Status) → why ≡ Some s → (returned s (tickets.Execution k) buffer, state_of (with_waits c) bs) ≡ after (state_of c bs) (segment k buffer)
+  stays s y = rw (found.1, segmented_by, y) (rw (set-get_or c.hosts k.host blank, set-get_or c.mail k.host silent) refl)
 
-  -- From what each step of the call leaves.
-  pub segment_moved_on : (p : Progress) (bytes : List ℕ) (blocks : List Block) →
+  as_it_was : after (state_of c bs) (segment k buffer) ≡ after (state_of was bs) (segment k buffer)
+  as_it_was = ap (λ (d : Controller). after (state_of d bs) (segment k buffer)) left
+
+  -- From what each step of the call leaves; `h` is the host that was found.
+  pub segment_moved_on : (h : ℕ) → h ≡ pass.host → (p : Progress) (bytes : List ℕ) (blocks : List Block) →
       Ok p ≡ progress_by why comes_to → bytes ≡ buffer_by why comes_to buffer → blocks ≡ blocks_by why comes_to bs (start_of c.map (Some t)) →
-      (moved (gone_on c k.host known t p).0 bytes, state_of (gone_on c k.host known t p).1 blocks) ≡ after (state_of c bs) (segment k buffer)
-  segment_moved_on p bytes blocks ep eb es =
+      (moved (gone_on c h known t p).0 bytes, state_of (gone_on c h known t p).1 blocks) ≡ after (state_of was bs) (segment k buffer)
+  segment_moved_on h eh p bytes blocks ep eb es =
       let m = moved_is why comes_to p ep in
       let b : bytes ≡ comes_to.buffer = eb ∙ ap (λ (r : Option Status). buffer_by r comes_to buffer) m.0 in
       let s : blocks ≡ laid bs (start_of c.map (Some t)) comes_to.put = es ∙ ap (λ (r : Option Status). blocks_by r comes_to bs (start_of c.map (Some t))) m.0 in
-      rw (m.1, b, s) (moved_on m.0)
+      let host : h ≡ k.host = eh ∙ ap (λ (q : Pass). q.host) bears in
+      rw (host, m.1, b, s) (moved_on m.0) ∙ as_it_was
 
   pub segment_refused : (s : Status) (bytes : List ℕ) (blocks : List Block) →
       Err s ≡ progress_by why comes_to → bytes ≡ buffer_by why comes_to buffer → blocks ≡ blocks_by why comes_to bs (start_of c.map (Some t)) →
-      (returned s (tickets.Execution k) bytes, state_of (with_host c k.host known) blocks) ≡ after (state_of c bs) (segment k buffer)
+      (returned s (tickets.Execution k) bytes, state_of (with_waits c) blocks) ≡ after (state_of was bs) (segment k buffer)
   segment_refused s bytes blocks ep eb es =
       let m = refused_is why comes_to s ep in
       let b : bytes ≡ buffer = eb ∙ ap (λ (r : Option Status). buffer_by r comes_to buffer) m in
       let l : blocks ≡ bs = es ∙ ap (λ (r : Option Status). blocks_by r comes_to bs (start_of c.map (Some t))) m in
-      rw (b, l) (stays s m)
+      rw (b, l) (stays s m) ∙ as_it_was

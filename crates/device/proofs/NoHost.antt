@@ -10,10 +10,9 @@ use Rattle.host.specs.Hosts.{blank, host_at}
 use Rattle.host.specs.Messages.{judged, refused}
 use Rattle.host.specs.Waits.{mail_at, settle}
 use Rattle.device.specs.declared.controller.Controller.{Controller}
-use Rattle.device.specs.declared.table.Known.{Known}
 use Rattle.device.specs.declared.ticket.Ticket.TheVariants as tickets
 use Rattle.device.specs.Calls.{Call, command, segment, report, cancel, clear, notice, fault, by, Answer, refusal, returned}
-use Rattle.device.specs.Device.{State, known_at, state_of, fixed, first_status, status_in, host_of, says, Served, served, posted, asked, in_way, mail_of, left_by, after, with_waits}
+use Rattle.device.specs.Device.{State, Known, known_at, state_of, fixed, first_status, status_in, host_of, says, Served, served, posted, asked, in_way, mail_of, left_by, after, with_waits}
 
 pub no_number : (c : Controller) (h : ℕ) → None ≡ known_at c h → 8 ≤ h
 no_number c h e =

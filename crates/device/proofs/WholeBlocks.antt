@@ -11,8 +11,7 @@ use Rattle.message.specs.declared.command.Command.{Command}
 use Rattle.message.specs.declared.command.Command.TheVariants as commands
 use Rattle.flex.specs.declared.status.Status.TheVariants as statuses
 use Rattle.flex.specs.declared.unit_map.UnitMap.{UnitMap}
-use Rattle.host.specs.declared.transaction.Outcome.{Outcome}
-use Rattle.host.specs.declared.transaction.Outcome.TheVariants as outcomes
+use Rattle.host.specs.declared.transaction.Failure.{Failure}
 use Rattle.host.specs.declared.transaction.Transaction.{Transaction}
 use Rattle.host.specs.Progress.{lies_in, segment_of}
 use Rattle.transfer.specs.Segments.{put, put_next, laid, write_by, moved_by_command, is_verify, holds_segment, refusal_of, reach_of}
@@ -54,11 +53,9 @@ put_whole b (o ∷ os) bytes l =
     next_whole (Ok x) k ks h a = (h, a)
     next_whole (Err f) k ks h a = tt
 
-write_whole : (r : Outcome) (t : Transaction) (b : ℕ) (os : List (Option Block)) (buffer : List ℕ) → 256 * length os ≤ length buffer → AllWhole (write_by r t b os buffer).put
-write_whole outcomes.Fine t b os buffer l = put_whole b os buffer l
-write_whole outcomes.EndOfVolume t b os buffer l = tt
-write_whole outcomes.UnitFault t b os buffer l = tt
-write_whole (outcomes.Unrecoverable a) t b os buffer l = tt
+write_whole : (r : Option Failure) (t : Transaction) (b : ℕ) (os : List (Option Block)) (buffer : List ℕ) → 256 * length os ≤ length buffer → AllWhole (write_by r t b os buffer).put
+write_whole None t b os buffer l = put_whole b os buffer l
+write_whole (Some f) t b os buffer l = tt
 
 moved_whole : (k : Option Command) (t : Transaction) (b : ℕ) (os : List (Option Block)) (buffer : List ℕ) → cond (is_verify k) true (leb (256 * length os) (length buffer)) ≡ true → AllWhole (moved_by_command k t b os buffer).put
 unfolding moved_by_command

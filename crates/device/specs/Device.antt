@@ -18,7 +18,7 @@ use Rattle.host.specs.Messages.{judged, refused, accepted as accepted_by, opened
 use Rattle.host.specs.Progress.{lies_in, phase_after, moved_by, advanced, ended}
 use Rattle.host.specs.Waits.{powered, silent, mail_at, settle, waiting_for, without_notice}
 use Rattle.device.specs.declared.controller.Controller.{Controller}
-use Rattle.device.specs.declared.table.Known.{Known}
+use Rattle.device.specs.declared.device.Device.{Device}
 use Rattle.device.specs.declared.ticket.ExecutionTicket.{ExecutionTicket}
 use Rattle.device.specs.declared.ticket.ReportTicket.{ReportTicket}
 use Rattle.device.specs.declared.ticket.Ticket.{Ticket}
@@ -38,6 +38,10 @@ pub record State : Type 0 where
 
 abbrev pub state_of : Controller → List Block → State
 state_of c blocks = record { number = c.number; map = c.map; hosts = c.hosts; mail = c.mail; activity = c.activity; blocks = blocks }
+
+-- The state of a device, from what its controller holds and what its store means; `blocks` says what a store means.
+abbrev pub state : {S : Type 0} → (S → List Block) → Device S → State
+state blocks d = state_of d.controller (blocks d.store)
 
 abbrev pub host_of : State → ℕ → Host
 host_of s h = host_at s.hosts h
@@ -218,6 +222,11 @@ posted false o x (notice h) m = without_notice m
 posted false o x (fault h) m = m
 
 -- ---- A call.
+
+-- What is kept of a host.
+pub record Known : Type 0 where
+  pub host : Host
+  pub mail : Mail
 
 -- What is kept of a host, if its number is 0 to 7; its record and mail are put back, and every wait is judged.
 abbrev pub known_at : Controller → ℕ → Option Known

@@ -1,7 +1,6 @@
 -- Whole transfers: all segments of a transaction, however they are cut, joined.
 use Rattle.std.specs.Prelude.{◌≡◌, ℕ, ◌-◌, ◌*◌, true, ◌≢◌, List, [], ◌∷◌, ◌++◌, take, is_some, Some, None, Option}
-use Rattle.host.specs.declared.transaction.Outcome.{Outcome}
-use Rattle.host.specs.declared.transaction.Outcome.TheVariants as outcomes
+use Rattle.host.specs.declared.transaction.Failure.{Failure}
 use Rattle.host.specs.declared.transaction.Phase.TheVariants as phases
 use Rattle.host.specs.declared.transaction.Transaction.{Transaction}
 use Rattle.host.specs.Progress.{first_fault, address_tried}
@@ -80,11 +79,11 @@ all_left s k (buffer ∷ more) =
     take (256 * moved_count s (segment k buffer)) (buffer_in (answer s (segment k buffer))) ++ all_left (next s (segment k buffer)) k more
 
 -- What there is to report so far.
-abbrev pub outcome_in : Option Transaction → Outcome
-outcome_in None = outcomes.Fine
+abbrev pub outcome_in : Option Transaction → Option Failure
+outcome_in None = None
 outcome_in (Some t) = t.outcome
 
-abbrev pub outcome_of : State → ℕ → Outcome
+abbrev pub outcome_of : State → ℕ → Option Failure
 outcome_of s h = outcome_in (host_of s h).transaction
 
 -- What one segment of all the blocks that a transaction has left would come to.

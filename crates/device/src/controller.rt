@@ -10,6 +10,7 @@ pub const HOSTS: usize = 8;
 pub struct Controller {
     pub(super) number: u32,
     pub(super) map: UnitMap,
+    // one array of pairs would be no plainer: each host's mail is written while the records of all hosts are read
     pub(super) hosts: [Host; HOSTS],
     pub(super) mail: [Mail; HOSTS],
     pub(super) activity: u64,

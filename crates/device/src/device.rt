@@ -1,7 +1,8 @@
 ghost use Rattle.std.specs.Prelude.{◌≡◌, ◌<◌, length};
 ghost use Rattle.device.specs.Answers.{command_answer, segment_answer, report_answer, cancel_answer, clear_answer, notice_answer, fault_answer};
 ghost use Rattle.device.specs.Calls.{command, segment, report, cancel, clear, notice, fault};
-ghost use Rattle.device.specs.Device.{state_of, after, taken, parameters_of, locks_of, power_on as at_power_on};
+ghost use Rattle.device.specs.Callers.{known};
+ghost use Rattle.device.specs.Device.{state, after, taken, parameters_of, locks_of, power_on as at_power_on};
 ghost use Rattle.device.specs.Isolation.{IsolationFrom};
 ghost use Rattle.device.specs.Laws.{ApartnessFrom, ExclusionFrom, WaitsFrom};
 ghost use Rattle.device.specs.Refusals.{RefusalsFrom};
@@ -9,9 +10,8 @@ ghost use Rattle.device.specs.Sample.{Sampled};
 ghost use Rattle.device.specs.Small.{Table};
 ghost use Rattle.device.specs.Transfers.{MovingFrom, TransfersFrom};
 
+use super::caller::Caller;
 use super::controller::{Controller, HOSTS};
-use super::fit::fitting;
-use super::table::Known;
 use super::ticket::{ExecutionTicket, ReportTicket, Returned, Ticket};
 use flex::status::Status;
 use flex::unit_map::UnitMap;
@@ -19,7 +19,6 @@ use host::fault::HostFault;
 use host::locks::Locks;
 use host::mail::Mail;
 use host::record::{Host, is_blocked};
-use host::transaction::Phase;
 use host::want::Want;
 use message::message::Message;
 use message::parameters::Parameters;
@@ -38,85 +37,69 @@ pub struct Device<S> {
 impl<S: Store> Device<S> {
     /// Takes a command message of a host, and hands out a ticket for the transaction that it opens.
     pub fn command(&mut self, host: u8, bytes: &[u8]) -> Result<Ticket, Status>
-        ensures { (command_answer result, state_of self.new.controller (S.Store.blocks self.new.store)) ≡ after (state_of self.old.controller (S.Store.blocks self.old.store)) (command host bytes.now) }
+        ensures { (command_answer result, state S.Store.blocks self.new) ≡ after (state S.Store.blocks self.old) (command host bytes.now) }
     {
-        let Some(mut known) = self.controller.find(host) else {
-            self.controller.judge_waits();
-            return Err(Status::BadHost);
-        };
+        let mut caller = self.controller.caller(host)?;
         let reaches = self.controller.map.end() <= self.store.size();
-        match known.host.judge(&self.controller.map, reaches, bytes) {
+        match caller.host.judge(&self.controller.map, reaches, bytes) {
             Err(status) => {
-                known.host.refuse(status);
-                self.controller.put_back(host, known);
+                caller.host.refuse(status);
+                self.controller.put_back(caller);
                 Err(status)
             }
-            Ok(message) => self.take(host, known, message),
+            Ok(message) => self.take(caller, message),
         }
     }
 
     /// A message at the lock check: it is waited for where something stands in its way, and accepted otherwise.
-    fn take(&mut self, host: u8, mut known: Known, message: Message) -> Result<Ticket, Status>
-        requires { host < 8 }
-        ensures controller_after { (command_answer result, self.new.controller) ≡ taken self.old.controller host known message }
+    fn take(&mut self, mut caller: Caller, message: Message) -> Result<Ticket, Status>
+        ensures controller_after { (command_answer result, self.new.controller) ≡ taken self.old.controller caller.number (known caller) message }
         ensures store_unchanged { self.new.store ≡ self.old.store }
     {
+        let host = caller.number;
         let want = Want::of(message);
         if is_blocked(&self.controller.hosts, host, want) {
-            known.mail.wait_for(want);
-            self.controller.put_back(host, known);
+            caller.mail.wait_for(want);
+            self.controller.put_back(caller);
             return Err(Status::ResourceUnavailable);
         }
-        let phase = known.host.accept(&self.controller.map, message);
-        self.controller.put_back(host, known);
+        let phase = caller.host.accept(&self.controller.map, message);
+        self.controller.put_back(caller);
         Ok(Ticket::of(self.controller.number, host, phase))
     }
 
     /// Ends a host's interlock and restores its values; its locks, notice, wait and fault are dropped.
     pub fn clear(&mut self, host: u8) -> Result<(), Status>
-        ensures { (clear_answer result, state_of self.new.controller (S.Store.blocks self.new.store)) ≡ after (state_of self.old.controller (S.Store.blocks self.old.store)) (clear host) }
+        ensures { (clear_answer result, state S.Store.blocks self.new) ≡ after (state S.Store.blocks self.old) (clear host) }
     {
-        let Some(known) = self.controller.find(host) else {
+        let mut caller = self.controller.caller(host)?;
+        if caller.host.transaction.is_some() {
             self.controller.judge_waits();
-            return Err(Status::BadHost);
-        };
-        if known.host.transaction.is_some() {
-            self.controller.put_back(host, known);
             return Err(Status::MessageSequence);
         }
-        self.controller.put_back(
-            host,
-            Known {
-                host: Host::cleared(),
-                mail: Mail::silent(),
-            },
-        );
+        caller.host = Host::cleared();
+        caller.mail = Mail::silent();
+        self.controller.put_back(caller);
         Ok(())
     }
 
     /// Hands a host's notice over and removes it, or says none.
     pub fn notice(&mut self, host: u8) -> Result<Option<Status>, Status>
-        ensures { (notice_answer result, state_of self.new.controller (S.Store.blocks self.new.store)) ≡ after (state_of self.old.controller (S.Store.blocks self.old.store)) (notice host) }
+        ensures { (notice_answer result, state S.Store.blocks self.new) ≡ after (state S.Store.blocks self.old) (notice host) }
     {
-        let Some(mut known) = self.controller.find(host) else {
-            self.controller.judge_waits();
-            return Err(Status::BadHost);
-        };
-        let told = known.mail.take_notice();
-        self.controller.put_back(host, known);
+        let mut caller = self.controller.caller(host)?;
+        let told = caller.mail.take_notice();
+        self.controller.put_back(caller);
         Ok(told)
     }
 
     /// The first store fault since a host's latest accepted message, or none.
     pub fn fault(&mut self, host: u8) -> Result<Option<HostFault>, Status>
-        ensures { (fault_answer result, state_of self.new.controller (S.Store.blocks self.new.store)) ≡ after (state_of self.old.controller (S.Store.blocks self.old.store)) (fault host) }
+        ensures { (fault_answer result, state S.Store.blocks self.new) ≡ after (state S.Store.blocks self.old) (fault host) }
     {
-        let Some(known) = self.controller.find(host) else {
-            self.controller.judge_waits();
-            return Err(Status::BadHost);
-        };
-        self.controller.put_back(host, known);
-        Ok(known.host.fault)
+        let caller = self.controller.caller(host)?;
+        self.controller.judge_waits();
+        Ok(caller.host.fault)
     }
 
     /// Moves the next segment of a transaction, and exchanges its ticket for the next.
@@ -125,23 +108,9 @@ impl<S: Store> Device<S> {
         ticket: ExecutionTicket,
         buffer: &mut [u8],
     ) -> Result<Ticket, Returned<ExecutionTicket>>
-        ensures { (segment_answer result buffer.new, state_of self.new.controller (S.Store.blocks self.new.store)) ≡ after (state_of self.old.controller (S.Store.blocks self.old.store)) (segment ticket buffer.old) }
+        ensures { (segment_answer result buffer.new, state S.Store.blocks self.new) ≡ after (state S.Store.blocks self.old) (segment ticket buffer.old) }
     {
-        let host = ticket.host;
-        let Some(known) = self.controller.find(host) else {
-            self.controller.judge_waits();
-            return Err(Returned {
-                status: Status::MessageSequence,
-                ticket,
-            });
-        };
-        let Some(transaction) = fitting(
-            self.controller.number,
-            ticket.device,
-            Phase::Execution,
-            known.host.transaction,
-        ) else {
-            self.controller.put_back(host, known);
+        let Some((caller, transaction)) = self.controller.fitting(ticket.pass()) else {
             return Err(Returned {
                 status: Status::MessageSequence,
                 ticket,
@@ -149,48 +118,29 @@ impl<S: Store> Device<S> {
         };
         match move_segment(&mut self.store, &self.controller.map, transaction, buffer) {
             Err(status) => {
-                self.controller.put_back(host, known);
+                self.controller.judge_waits();
                 Err(Returned { status, ticket })
             }
             Ok(progress) => {
                 Ticket::Execution(ticket).spend();
-                Ok(self.controller.go_on(host, known, transaction, progress))
+                Ok(self.controller.go_on(caller, transaction, progress))
             }
         }
     }
 
     /// Ends a transaction before its report. Blocks that were moved stay.
     pub fn cancel(&mut self, ticket: Ticket) -> Result<(), Returned<Ticket>>
-        ensures { (cancel_answer result, state_of self.new.controller (S.Store.blocks self.new.store)) ≡ after (state_of self.old.controller (S.Store.blocks self.old.store)) (cancel ticket) }
+        ensures { (cancel_answer result, state S.Store.blocks self.new) ≡ after (state S.Store.blocks self.old) (cancel ticket) }
     {
-        let host = ticket.host();
-        let Some(mut known) = self.controller.find(host) else {
-            self.controller.judge_waits();
+        let Some((caller, _)) = self.controller.fitting(ticket.pass()) else {
             return Err(Returned {
                 status: Status::MessageSequence,
                 ticket,
             });
         };
-        match fitting(
-            self.controller.number,
-            ticket.device(),
-            ticket.phase(),
-            known.host.transaction,
-        ) {
-            None => {
-                self.controller.put_back(host, known);
-                Err(Returned {
-                    status: Status::MessageSequence,
-                    ticket,
-                })
-            }
-            Some(_) => {
-                ticket.spend();
-                known.host.end();
-                self.controller.put_back(host, known);
-                Ok(())
-            }
-        }
+        ticket.spend();
+        self.controller.close(caller);
+        Ok(())
     }
 
     /// Writes a transaction's report into the front of the buffer, and ends the transaction.
@@ -199,39 +149,24 @@ impl<S: Store> Device<S> {
         ticket: ReportTicket,
         buffer: &mut [u8],
     ) -> Result<(), Returned<ReportTicket>>
-        ensures { (report_answer result buffer.new, state_of self.new.controller (S.Store.blocks self.new.store)) ≡ after (state_of self.old.controller (S.Store.blocks self.old.store)) (report ticket buffer.old) }
+        ensures { (report_answer result buffer.new, state S.Store.blocks self.new) ≡ after (state S.Store.blocks self.old) (report ticket buffer.old) }
     {
-        let host = ticket.host;
-        let Some(mut known) = self.controller.find(host) else {
-            self.controller.judge_waits();
-            return Err(Returned {
-                status: Status::MessageSequence,
-                ticket,
-            });
-        };
-        let Some(transaction) = fitting(
-            self.controller.number,
-            ticket.device,
-            Phase::Report,
-            known.host.transaction,
-        ) else {
-            self.controller.put_back(host, known);
+        let Some((caller, open)) = self.controller.fitting(ticket.pass()) else {
             return Err(Returned {
                 status: Status::MessageSequence,
                 ticket,
             });
         };
         if buffer.len() < REPORT_BYTES {
-            self.controller.put_back(host, known);
+            self.controller.judge_waits();
             return Err(Returned {
                 status: Status::BadBuffer,
                 ticket,
             });
         }
-        buffer[0..REPORT_BYTES].copy_from_slice(&report_bytes(transaction.outcome));
+        buffer[0..REPORT_BYTES].copy_from_slice(&report_bytes(open.outcome));
         Ticket::Report(ticket).spend();
-        known.host.end();
-        self.controller.put_back(host, known);
+        self.controller.close(caller);
         Ok(())
     }
 
@@ -239,20 +174,16 @@ impl<S: Store> Device<S> {
     pub fn parameters(&self, host: u8) -> Result<Parameters, Status>
         ensures { result ≡ parameters_of self.now.controller host }
     {
-        match self.controller.find(host) {
-            Some(known) => Ok(known.host.parameters),
-            None => Err(Status::BadHost),
-        }
+        let caller = self.controller.find(host).ok_or(Status::BadHost)?;
+        Ok(caller.host.parameters)
     }
 
     /// A host's locks.
     pub fn locks(&self, host: u8) -> Result<Locks, Status>
         ensures { result ≡ locks_of self.now.controller host }
     {
-        match self.controller.find(host) {
-            Some(known) => Ok(known.host.locks),
-            None => Err(Status::BadHost),
-        }
+        let caller = self.controller.find(host).ok_or(Status::BadHost)?;
+        Ok(caller.host.locks)
     }
 
     /// How many blocks segments have asked the store to read or write since power on.
@@ -288,14 +219,14 @@ impl<S: Store> Device<S> {
 /// Of every device so built: isolation, in the form asked for and in a stronger one; exclusion; that no wait outlives its cause; what a refused call leaves;
 /// that there are runs that meet all that isolation asks for; and a table of what messages come to on a small device.
 pub fn power_on<S: Store>(number: u32, map: UnitMap, store: S) -> Device<S>
-    ensures made { state_of result.controller (S.Store.blocks result.store) ≡ at_power_on number map (S.Store.blocks store) }
-    ensures isolation { IsolationFrom (state_of result.controller (S.Store.blocks result.store)) }
-    ensures apartness { ApartnessFrom (state_of result.controller (S.Store.blocks result.store)) }
-    ensures exclusion { ExclusionFrom (state_of result.controller (S.Store.blocks result.store)) }
-    ensures waits { WaitsFrom (state_of result.controller (S.Store.blocks result.store)) }
-    ensures refusals { RefusalsFrom (state_of result.controller (S.Store.blocks result.store)) }
-    ensures moving { MovingFrom (state_of result.controller (S.Store.blocks result.store)) }
-    ensures transfers { TransfersFrom (state_of result.controller (S.Store.blocks result.store)) }
+    ensures made { state S.Store.blocks result ≡ at_power_on number map (S.Store.blocks store) }
+    ensures isolation { IsolationFrom (state S.Store.blocks result) }
+    ensures apartness { ApartnessFrom (state S.Store.blocks result) }
+    ensures exclusion { ExclusionFrom (state S.Store.blocks result) }
+    ensures waits { WaitsFrom (state S.Store.blocks result) }
+    ensures refusals { RefusalsFrom (state S.Store.blocks result) }
+    ensures moving { MovingFrom (state S.Store.blocks result) }
+    ensures transfers { TransfersFrom (state S.Store.blocks result) }
     ensures sampled { Sampled }
     ensures table { Table }
 {

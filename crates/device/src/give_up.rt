@@ -1,6 +1,6 @@
 ghost use Rattle.std.specs.Prelude.{◌≡◌};
 ghost use Rattle.device.specs.Calls.{cancel};
-ghost use Rattle.device.specs.Device.{state_of, after};
+ghost use Rattle.device.specs.Device.{state, after};
 
 use super::device::Device;
 use super::ticket::{Returned, Ticket};
@@ -8,7 +8,7 @@ use store::store::Store;
 
 /// Ends a ticket for good, as its bearer's last act: its transaction is cancelled, and a ticket that the device refuses is void.
 pub fn give_up<S: Store>(device: &mut Device<S>, ticket: Ticket)
-    ensures { state_of device.new.controller (S.Store.blocks device.new.store) ≡ (after (state_of device.old.controller (S.Store.blocks device.old.store)) (cancel ticket)).1 }
+    ensures { state S.Store.blocks device.new ≡ (after (state S.Store.blocks device.old) (cancel ticket)).1 }
 {
     match device.cancel(ticket) {
         Ok(()) => {}

@@ -1,8 +1,8 @@
 #![tactic(auto)]
 
+mod caller;
 pub mod controller;
 pub mod device;
-mod fit;
 pub mod give_up;
 mod table;
 pub mod ticket;

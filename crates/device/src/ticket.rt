@@ -1,17 +1,22 @@
 ghost use Rattle.std.specs.Prelude.{◌≡◌};
-ghost use Rattle.device.specs.Calls.{bearer};
-ghost use Rattle.device.specs.Device.{ticket_for, number_on, phase_on};
+ghost use Rattle.device.specs.declared.ticket.Ticket.TheVariants.{Execution, Report};
+ghost use Rattle.device.specs.Callers.{pass_on};
+ghost use Rattle.device.specs.Device.{ticket_for};
 
 use flex::status::Status;
 use host::transaction::Phase;
 
 /// Permission for the segments of one transaction. Like every ticket it is spent by a call, and cannot be copied or let go.
+// It and `ReportTicket` are two types so that neither passes for the other. One type with a parameter would be no plainer:
+// a const one names the phase by a bool or a number, a type two empty types and a field that holds nothing, and either
+// has an alias for each.
 pub struct ExecutionTicket {
     pub(super) device: u32,
     pub(super) host: u8,
 }
 
 /// Permission for the report of one transaction.
+// A type of its own: see `ExecutionTicket`.
 pub struct ReportTicket {
     pub(super) device: u32,
     pub(super) host: u8,
@@ -29,41 +34,53 @@ pub struct Returned<T> {
     pub ticket: T,
 }
 
+/// What a ticket bears: the number of its device, its host, and the phase that it is for.
+#[derive(Clone, Copy)]
+pub struct Pass {
+    pub(super) device: u32,
+    pub(super) host: u8,
+    pub(super) phase: Phase,
+}
+
+impl ExecutionTicket {
+    /// What it bears.
+    pub(super) fn pass(&self) -> Pass
+        ensures { result ≡ pass_on (Execution self.now) }
+    {
+        Pass {
+            device: self.device,
+            host: self.host,
+            phase: Phase::Execution,
+        }
+    }
+}
+
+impl ReportTicket {
+    /// What it bears.
+    pub(super) fn pass(&self) -> Pass
+        ensures { result ≡ pass_on (Report self.now) }
+    {
+        Pass {
+            device: self.device,
+            host: self.host,
+            phase: Phase::Report,
+        }
+    }
+}
+
 impl Ticket {
-    /// The host that the ticket bears.
-    pub(super) fn host(&self) -> u8
-        ensures { result ≡ bearer self.now }
+    /// What it bears.
+    pub(super) fn pass(&self) -> Pass
+        ensures { result ≡ pass_on self.now }
     {
         match self {
-            Ticket::Execution(ticket) => ticket.host,
-            Ticket::Report(ticket) => ticket.host,
-        }
-    }
-
-    /// The device's number that it bears.
-    pub(super) fn device(&self) -> u32
-        ensures { result ≡ number_on self.now }
-    {
-        match self {
-            Ticket::Execution(ticket) => ticket.device,
-            Ticket::Report(ticket) => ticket.device,
-        }
-    }
-
-    /// The phase that it is for.
-    pub(super) fn phase(&self) -> Phase
-        ensures { result ≡ phase_on self.now }
-    {
-        match self {
-            Ticket::Execution(_) => Phase::Execution,
-            Ticket::Report(_) => Phase::Report,
+            Ticket::Execution(ticket) => ticket.pass(),
+            Ticket::Report(ticket) => ticket.pass(),
         }
     }
 
     /// Ends a ticket that has served.
-    pub(super) fn spend(self)
-        ensures { Unit {0} }
-    {
+    pub(super) fn spend(self) {
         match self {
             Ticket::Execution(ExecutionTicket { device: _, host: _ }) => {}
             Ticket::Report(ReportTicket { device: _, host: _ }) => {}

@@ -7,15 +7,14 @@ ghost use Rattle.flat.specs.Flat.{flat_count, flat_size, flat_meaning, flat_refu
 ghost use Rattle.flat.specs.Lawful.{flat_lawful};
 
 use super::marks::{MARKS_A_BYTE, is_marked, mark, unmark};
-use image::check::ask;
+use image::check::{BLOCK_LIMIT, ask};
 use image::refusal::Refusal;
 use store::fault::{BLOCK_BYTES, FaultKind, Protection, StoreFault};
 use store::store::Store;
 
-/// The most blocks that an image has.
-const BLOCK_LIMIT: usize = 4_194_304;
-
 /// Lent memory with block b at byte 256 x b, and a lent map of one bit a block.
+// One text for this and a raw image would be no plainer: each call's contract says what its own memory holds after,
+// and a trait of the layout would have to carry all of that, for texts of a few lines.
 #[derive(Drop)]
 pub struct FlatImage<'a> {
     bytes: &'a mut [u8],
@@ -28,14 +27,10 @@ pub fn flat_count(bytes: usize, damage: usize) -> Option<u32>
     ensures { result ≡ flat_count bytes damage }
 {
     let blocks = bytes / BLOCK_BYTES;
-    if bytes % BLOCK_BYTES == 0
+    let fits = bytes % BLOCK_BYTES == 0
         && blocks <= BLOCK_LIMIT
-        && damage == blocks.div_ceil(MARKS_A_BYTE)
-    {
-        Some(blocks as u32)
-    } else {
-        None
-    }
+        && damage == blocks.div_ceil(MARKS_A_BYTE);
+    fits.then(|| blocks as u32)
 }
 
 impl<'a> FlatImage<'a> {
@@ -50,9 +45,7 @@ impl<'a> FlatImage<'a> {
         ensures names { IfOk result (λ image. (image.bytes.ghost_name ≡ bytes.entry.ghost_name) × (image.damage.ghost_name ≡ damage.entry.ghost_name)) }
         ensures blocks { MatchResult result (λ image. flat_meaning image ≡ flat_offered bytes.old damage.old protection) (λ _. flat_offered bytes.old damage.old protection ≡ []) }
     {
-        if flat_count(bytes.len(), damage.len()).is_none() {
-            return Err(Refusal::Lengths);
-        }
+        flat_count(bytes.len(), damage.len()).ok_or(Refusal::Lengths)?;
         Ok(FlatImage {
             bytes,
             damage,
@@ -100,10 +93,7 @@ impl<'a> FlatImage<'a> {
     {
         let number = ask(buffer.len(), block, self.count())?;
         if is_marked(self.damage, number) {
-            return Err(StoreFault {
-                kind: FaultKind::Damaged,
-                block,
-            });
+            return Err(FaultKind::Damaged.at(block));
         }
         let at = BLOCK_BYTES * number;
         buffer.copy_from_slice(&self.bytes[at..at + BLOCK_BYTES]);
@@ -142,12 +132,7 @@ impl Store for FlatImage<'_> {
         ensures law { result ≡ Ok tt → OnlyMark self.old.damage.now block false self.new.damage.now }
     {
         let number = ask(bytes.len(), block, self.count())?;
-        if let Protection::Protected = self.protection {
-            return Err(StoreFault {
-                kind: FaultKind::Protected,
-                block,
-            });
-        }
+        self.protection.permit(block)?;
         let at = BLOCK_BYTES * number;
         self.bytes[at..at + BLOCK_BYTES].copy_from_slice(bytes);
         unmark(self.damage, number);
@@ -156,10 +141,7 @@ impl Store for FlatImage<'_> {
 
     fn protection(&self, block: u32) -> Result<Protection, StoreFault> {
         if block >= self.count() {
-            return Err(StoreFault {
-                kind: FaultKind::Beyond,
-                block,
-            });
+            return Err(FaultKind::Beyond.at(block));
         }
         Ok(self.protection)
     }

@@ -4,12 +4,15 @@ ghost use Rattle.flat.specs.Flat.{marked, with_mark, without_mark};
 /// How many blocks a byte of the map marks.
 pub(super) const MARKS_A_BYTE: usize = 8;
 
+// All three ask that the map has the block, which their caller has just shown: a type over a map that is lent for
+// one call would be no shorter.
+
 /// Whether the map says that a block is damaged.
 pub(super) fn is_marked(damage: &[u8], block: usize) -> bool
     requires { block / 8 < length damage.now }
     ensures { result ≡ marked damage.now block }
 {
-    (damage[block / MARKS_A_BYTE] >> (block % MARKS_A_BYTE)) % 2 == 1
+    (damage[block / MARKS_A_BYTE] >> (block % MARKS_A_BYTE)) & 1 == 1
 }
 
 /// Marks a block damaged.

@@ -2,14 +2,14 @@
 use Rattle.std.proofs.Common.{◌≡◌, ℕ, ◌+◌, ◌-◌, ◌^◌, ◌<◌, ◌≤◌, true, ltb, List, length, get_or, take, IfSome, Some, None, Option, sym, refl, ap, ◌∙◌, subst, arith}
 use Rattle.std.proofs.lemmas.List.{get_or-take, length-append, length-replicate, length-take-le, take_at}
 use Rattle.std.proofs.lemmas.Bool.{cond-true, ltb-true, lt-ltb, leb-true}
+use Rattle.std.proofs.lemmas.Option.{none-some, cond_some}
 use Rattle.flex.specs.declared.vector.Vector.{Vector}
 use Rattle.flex.specs.declared.unit.Unit.{Unit as DiscUnit}
 use Rattle.flex.specs.declared.unit_map.UnitMap.{UnitMap}
 use Rattle.flex.specs.Geometries.{size_of, place_of, Names}
 use Rattle.flex.specs.Units.{blank, past, inside, Holds, Sound}
 use Rattle.flex.specs.Maps.{padded, listed, unit_at, block_in, block_at, Named}
-use Rattle.flex.proofs.Cases.{not_there, some_passed}
-use Rattle.flex.proofs.Soundness.{every_at, law_from}
+use Rattle.flex.proofs.Soundness.{passed_at, law_from}
 
 length_listed : (m : UnitMap) → length (listed m) ≡ m.count
 length_listed m = length-take-le m.count m.units (omega (arith, m.few, m.full))
@@ -37,7 +37,7 @@ module _ (m : UnitMap) where
   -- the unit of a number, in the list
   at_listed : (n : ℕ) (u : DiscUnit) → unit_at m n ≡ Some u → (n < length (listed m)) × (get_or (listed m) n blank ≡ u)
   at_listed n u e =
-      let p = some_passed (ltb n m.count) (get_or m.units n blank) u e in
+      let p = cond_some (ltb n m.count) (get_or m.units n blank) u e in
       let l : n < m.count = ltb-true _ _ p.0 in
       (omega (arith, length_listed m), get_or-take m.count m.units n blank l ∙ p.1)
 
@@ -48,9 +48,9 @@ module _ (m : UnitMap) where
 
   -- an address's block is held by its unit
   held_in : (o : Option DiscUnit) (address block : ℕ) → block_in address o ≡ Some block → (u : DiscUnit) × (o ≡ Some u) × Holds u block × (u.first + address ≡ block)
-  held_in None address block e = absurd (not_there e)
+  held_in None address block e = absurd (none-some _ e)
   held_in (Some u) address block e =
-      let p = some_passed (ltb address (size_of u.geometry)) (u.first + address) block e in
+      let p = cond_some (ltb address (size_of u.geometry)) (u.first + address) block e in
       let l : address < size_of u.geometry = ltb-true _ _ p.0 in
       (u, refl, (omega (arith, p.1), omega (arith, p.1)), p.1)
 
@@ -81,7 +81,7 @@ module _ (m : UnitMap) where
   inside_end : (n : ℕ) (u : DiscUnit) → unit_at m n ≡ Some u → past u ≤ m.end
   inside_end n u e =
       let p = at_listed n u e in
-      let h : inside m.end u ≡ true = subst (λ v. inside m.end v ≡ true) p.1 (every_at (inside m.end) blank (listed m) n m.within p.0) in
+      let h : inside m.end u ≡ true = subst (λ v. inside m.end v ≡ true) p.1 (passed_at (inside m.end) blank (listed m) n m.within p.0) in
       leb-true _ _ h
 
   -- so the numbers of its blocks fit 32 bits

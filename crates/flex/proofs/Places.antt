@@ -2,10 +2,11 @@
 use Rattle.std.proofs.Common.{◌≡◌, ℕ, ◌+◌, ◌*◌, ◌/◌, ◌%◌, ◌<◌, ◌&&◌, ltb, Some, None, sym, refl, ap, ◌∙◌, mul_comm, mul-zero, arith}
 use Rattle.std.proofs.lemmas.Nat.{mul-add-lt, div-mul-add, mod-mul-add, div_below, mod_below, div-add-mod'}
 use Rattle.std.proofs.lemmas.Bool.{lt-ltb, le-ltb, cond-true, cond-false, and_from, ltb-true, and_parts}
+use Rattle.std.proofs.lemmas.Option.{cond_some}
 use Rattle.flex.specs.declared.vector.Vector.{Vector}
 use Rattle.flex.specs.declared.geometry.Geometry.{Geometry}
 use Rattle.flex.specs.Geometries.{size_of, vector_at, place_of, address_at, Within, Names, Numbered}
-use Rattle.flex.proofs.Cases.{absent, some_passed}
+use Rattle.flex.proofs.Cases.{absent}
 
 -- where a product is above a number, its second factor is above 0
 right_positive : (a b n : ℕ) → n < a * b → 0 < b
@@ -73,7 +74,7 @@ module _ (g : Geometry) where
   -- a vector that has an address is within
   pub within_address : (v : Vector) (address : ℕ) → address_at g v ≡ Some address → Within g v × (address ≡ place_of g v)
   within_address v address e =
-      let p = some_passed (ltb v.cylinder g.cylinders && (ltb v.head g.heads && ltb v.sector g.sectors)) (place_of g v) address e in
+      let p = cond_some (ltb v.cylinder g.cylinders && (ltb v.head g.heads && ltb v.sector g.sectors)) (place_of g v) address e in
       let q = and_parts (ltb v.cylinder g.cylinders) _ p.0 in
       let r = and_parts (ltb v.head g.heads) _ q.1 in
       (record { cylinder = ltb-true _ _ q.0; head = ltb-true _ _ r.0; sector = ltb-true _ _ r.1 }, sym p.1)

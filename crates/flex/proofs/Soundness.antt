@@ -2,31 +2,30 @@
 use Rattle.std.proofs.Common.{◌≡◌, ℕ, zero, suc, ◌-◌, ◌*◌, ◌<◌, ◌≤◌, Bool, true, ltb, leb, List, [], ◌∷◌, length, get_or, refl, ⊎_elim, arith}
 use Rattle.std.proofs.lemmas.Nat.{mul-le}
 use Rattle.std.proofs.lemmas.Bool.{lt-ltb, le-leb, and_from, and_parts, or_left, or_right, or_cases, ltb-true, leb-true, cases_lt, cases_order}
+use Rattle.std.proofs.lemmas.List.Recursion.{and_at, and_from_places}
+use Rattle.std.specs.List.{list_all}
 use Rattle.flex.specs.declared.unit.Unit.{Unit as DiscUnit}
 use Rattle.flex.specs.Geometries.{size_of}
-use Rattle.flex.specs.Units.{blank, past, counted, apart, inside, every, all_apart, counts, sound, Holds, Sound}
+use Rattle.flex.specs.Units.{blank, past, counted, apart, inside, all_apart, counts, sound, Holds, Sound}
 
--- what every element passes, each passes by its place, and the other way round
-module _ {A : Type 0} (f : A → Bool) (d : A) where
-  pub every_at : (xs : List A) (n : ℕ) → every f xs ≡ true → n < length xs → f (get_or xs n d) ≡ true
-  every_at [] n e h = absurd (omega arith)
-  every_at (x ∷ xs) zero e h = (and_parts (f x) _ e).0
-  every_at (x ∷ xs) (suc n) e h = every_at xs n (and_parts (f x) _ e).1 (omega arith)
+-- what all elements pass, each passes by its place, and the other way round
+module _ {A : Type 0} (f : A → Bool) (d : A) (xs : List A) where
+  pub passed_at : (n : ℕ) → list_all f xs ≡ true → n < length xs → f (get_or xs n d) ≡ true
+  passed_at n e h = and_at (list_all f) f refl (λ _ _. refl) xs n d h e
 
-  pub every_from : (xs : List A) → ((n : ℕ) → n < length xs → f (get_or xs n d) ≡ true) → every f xs ≡ true
-  every_from [] h = refl
-  every_from (x ∷ xs) h = and_from (f x) _ (h 0 (omega arith)) (every_from xs (λ n l. h (suc n) (omega arith)))
+  passed_by_all : ((n : ℕ) → n < length xs → f (get_or xs n d) ≡ true) → list_all f xs ≡ true
+  passed_by_all h = and_from_places (list_all f) f refl (λ _ _. refl) xs d h
 
 pub apart_at : (us : List DiscUnit) (n k : ℕ) → all_apart us ≡ true → n < k → k < length us → apart (get_or us n blank) (get_or us k blank) ≡ true
 apart_at [] n k e h l = absurd (omega arith)
 apart_at (u ∷ us) n zero e h l = absurd (omega arith)
-apart_at (u ∷ us) zero (suc k) e h l = every_at (apart u) blank us k (and_parts (every (apart u) us) _ e).0 (omega arith)
-apart_at (u ∷ us) (suc n) (suc k) e h l = apart_at us n k (and_parts (every (apart u) us) _ e).1 (omega arith) (omega arith)
+apart_at (u ∷ us) zero (suc k) e h l = passed_at (apart u) blank us k (and_parts (list_all (apart u) us) _ e).0 (omega arith)
+apart_at (u ∷ us) (suc n) (suc k) e h l = apart_at us n k (and_parts (list_all (apart u) us) _ e).1 (omega arith) (omega arith)
 
 apart_from : (us : List DiscUnit) → ((n k : ℕ) → n < k → k < length us → apart (get_or us n blank) (get_or us k blank) ≡ true) → all_apart us ≡ true
 apart_from [] h = refl
 apart_from (u ∷ us) h =
-    and_from (every (apart u) us) _ (every_from (apart u) blank us (λ k l. h 0 (suc k) (omega arith) (omega arith))) (apart_from us (λ n k i l. h (suc n) (suc k) (omega arith) (omega arith)))
+    and_from (list_all (apart u) us) _ (passed_by_all (apart u) blank us (λ k l. h 0 (suc k) (omega arith) (omega arith))) (apart_from us (λ n k i l. h (suc n) (suc k) (omega arith) (omega arith)))
 
 -- units apart share no block
 pub apart_holds : (u v : DiscUnit) (block : ℕ) → apart u v ≡ true → Holds u block → Holds v block → ⊥
@@ -57,9 +56,9 @@ module _ (us : List DiscUnit) (end : ℕ) where
     pub some : 1 ≤ length us
     pub few : length us ≤ 15
     pub reachable : end ≤ 4194304
-    pub counts : every counted us ≡ true
+    pub counts : list_all counted us ≡ true
     pub once : all_apart us ≡ true
-    pub within : every (inside end) us ≡ true
+    pub within : list_all (inside end) us ≡ true
 
   pub parts_from : sound us end ≡ true → Parts
   parts_from e =
@@ -84,7 +83,7 @@ module _ (us : List DiscUnit) (end : ℕ) where
         reachable = p.reachable;
         counts = λ n l.
             let u = get_or us n blank in
-            let t = and_parts (ltb 0 u.geometry.cylinders) _ (every_at counted blank us n p.counts l) in
+            let t = and_parts (ltb 0 u.geometry.cylinders) _ (passed_at counted blank us n p.counts l) in
             let w = and_parts (ltb 0 u.geometry.heads) _ t.1 in
             (ltb-true _ _ t.0, ltb-true _ _ w.0, ltb-true _ _ w.1);
         once = λ n k block l m h i.
@@ -93,7 +92,7 @@ module _ (us : List DiscUnit) (end : ℕ) where
             let before : n < k → ⊥ = λ lt. apart_holds u v block (apart_at us n k p.once lt m) h i in
             let after : k < n → ⊥ = λ lt. apart_holds v u block (apart_at us k n p.once lt l) i h in
             ⊎_elim (λ same. same) (λ o. absurd (⊎_elim before after o)) (cases_order n k);
-        within = λ n block l h. omega (arith, leb-true _ _ (every_at (inside end) blank us n p.within l));
+        within = λ n block l h. omega (arith, leb-true _ _ (passed_at (inside end) blank us n p.within l));
       }
 
   pub sound_to : Sound us end → sound us end ≡ true
@@ -105,7 +104,7 @@ module _ (us : List DiscUnit) (end : ℕ) where
         few = s.few;
         reachable = s.reachable;
         counts =
-            every_from counted blank us (λ n l.
+            passed_by_all counted blank us (λ n l.
             let h = s.counts n l in
             and_from _ _ (lt-ltb _ _ h.0) (and_from _ _ (lt-ltb _ _ h.1) (lt-ltb _ _ h.2)));
         once =
@@ -113,7 +112,7 @@ module _ (us : List DiscUnit) (end : ℕ) where
             let m : n < length us = omega arith in
             holds_apart (get_or us n blank) (get_or us k blank) (has n m) (has k l) (λ block h i. omega (arith, s.once n k block m l h i)));
         within =
-            every_from (inside end) blank us (λ n l.
+            passed_by_all (inside end) blank us (λ n l.
             let p = has n l in
             let last : past (get_or us n blank) - 1 < end = s.within n (past (get_or us n blank) - 1) l (omega arith, omega arith) in
             le-leb _ _ (omega arith));

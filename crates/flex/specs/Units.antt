@@ -1,5 +1,6 @@
 -- Units, and which lists of them are a unit map.
 use Rattle.std.specs.Prelude.{◌≡◌, ℕ, ◌+◌, ◌<◌, ◌≤◌, Bool, true, ◌&&◌, ◌||◌, List, [], ◌∷◌, length, get_or, nat_le, nat_lt, slice_index_or}
+use Rattle.std.specs.List.{list_all}
 use Rattle.flex.specs.Geometries.{size_of}
 use Rattle.flex.specs.declared.unit.Unit.{Unit as DiscUnit}
 
@@ -23,21 +24,18 @@ apart u v = nat_le (past u) v.first || nat_le (past v) u.first
 abbrev pub inside : ℕ → DiscUnit → Bool
 inside end u = nat_le (past u) end
 
-abbrev pub every : {A : Type 0} → (A → Bool) → List A → Bool
-every f [] = true
-every f (x ∷ xs) = f x && every f xs
-
+-- no two units of a list meet
 abbrev pub all_apart : List DiscUnit → Bool
 all_apart [] = true
-all_apart (u ∷ us) = every (apart u) us && all_apart us
+all_apart (u ∷ us) = list_all (apart u) us && all_apart us
 
 -- the counts of a unit map: 1 to 15 units, a stated end of at most 4,194,304 blocks, and the counts of each unit
 abbrev pub counts : List DiscUnit → ℕ → Bool
-counts us end = nat_le 1 (length us) && (nat_le (length us) 15 && (nat_le end 4194304 && every counted us))
+counts us end = nat_le 1 (length us) && (nat_le (length us) 15 && (nat_le end 4194304 && list_all counted us))
 
 -- the test of a unit map: counts, overlap, end, in this order; where one fails there is no map, and the status is 128/1
 abbrev pub sound : List DiscUnit → ℕ → Bool
-sound us end = counts us end && (all_apart us && every (inside end) us)
+sound us end = counts us end && (all_apart us && list_all (inside end) us)
 
 -- The law of that test. A unit holds the blocks from its first to its last:
 abbrev pub Holds : DiscUnit → ℕ → Type 0

@@ -19,9 +19,10 @@ impl Geometry {
         u32::from(self.cylinders) * u32::from(self.heads) * u32::from(self.sectors)
     }
 
-    /// The quotients and remainders of an address, where it is below the size.
-    fn split(self, address: u32) -> Option<Vector>
-        ensures { result ≡ vector_at self address }
+    /// The vector of an address, or none where the address is not below the size.
+    pub fn vector_at(self, address: u32) -> Option<Vector>
+        ensures is { result ≡ vector_at self address }
+        ensures law { Numbered self }
     {
         if address >= self.size() {
             return None;
@@ -35,9 +36,10 @@ impl Geometry {
         })
     }
 
-    /// The blocks before a vector, where each of its parts is below its count.
-    fn join(self, vector: Vector) -> Option<u32>
-        ensures { result ≡ address_at self vector }
+    /// The address of a vector, or none where the cylinder, the head or the sector is not below its count.
+    pub fn address_at(self, vector: Vector) -> Option<u32>
+        ensures is { result ≡ address_at self vector }
+        ensures law { Numbered self }
     {
         let cylinders = u32::from(self.cylinders);
         let heads = u32::from(self.heads);
@@ -48,21 +50,5 @@ impl Geometry {
             return None;
         }
         Some((vector.cylinder * heads + head) * sectors + sector)
-    }
-
-    /// The vector of an address, or none where the address is not below the size.
-    pub fn vector_at(self, address: u32) -> Option<Vector>
-        ensures is { result ≡ vector_at self address }
-        ensures law { Numbered self }
-    {
-        self.split(address)
-    }
-
-    /// The address of a vector, or none where the cylinder, the head or the sector is not below its count.
-    pub fn address_at(self, vector: Vector) -> Option<u32>
-        ensures is { result ≡ address_at self vector }
-        ensures law { Numbered self }
-    {
-        self.join(vector)
     }
 }

@@ -73,8 +73,7 @@ impl fmt::Display for Status {
     ghost output = { λ s. Some (decimal (numbers_of s).0 ++ (codes "/" ++ decimal (numbers_of s).1)) };
 
     fn fmt<W: fmt::Write>(&self, f: &mut fmt::Formatter<W>) -> fmt::Result {
-        let group = self.group();
-        let code = self.code();
+        let (group, code) = self.numbers();
         write!(f, "{group}/{code}")
     }
 }

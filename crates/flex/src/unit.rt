@@ -1,7 +1,7 @@
 ghost use Rattle.std.specs.Prelude.{◌≡◌};
 ghost use Rattle.flex.specs.Units.{apart, counted, inside, past};
 
-use super::geometry::*;
+use super::geometry::Geometry;
 
 /// A unit: a run of blocks of the store, from its first block on, as many as its geometry has places.
 #[derive(Clone, Copy, PartialEq, Eq, Debug)]

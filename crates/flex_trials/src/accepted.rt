@@ -1,9 +1,8 @@
 use crate::small::two_units;
-use flex::status::*;
-use message::command::*;
+use message::command::Command;
 use message::decode::decode;
-use message::message::*;
-use message::parameters::*;
+use message::message::Message;
+use message::parameters::Parameters;
 use std::process::Abort;
 use std::test::Fail;
 

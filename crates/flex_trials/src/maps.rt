@@ -1,43 +1,37 @@
 use crate::small::{two_units, unit};
-use flex::geometry::*;
-use flex::status::*;
-use flex::unit::*;
+use flex::status::Status;
+use flex::unit::Unit;
 use flex::unit_map::UnitMap;
+use std::array;
 use std::process::Abort;
 use std::test::Fail;
 
-fn no_map(rt: &impl Abort, units: &[Unit], end: u32) -> Result<(), Fail> {
-    match UnitMap::new(units, end) {
-        Ok(_) => Err(Fail::new("a map that should not exist")),
-        Err(status) => {
-            assert_eq!(rt; status, Status::BadUnitMap);
-            Ok(())
-        },
-    }
+fn no_map(rt: &impl Abort, units: &[Unit], end: u32) {
+    assert_eq!(rt; UnitMap::new(units, end).err(), Some(Status::BadUnitMap));
 }
 
 #[test]
-fn maps_refused_for_counts(rt: HostRuntime) -> Result<(), Fail> {
-    no_map(&rt, &[], 64)?;
-    no_map(&rt, &[unit(0, 1, 1, 1); 16], 64)?;
-    no_map(&rt, &[unit(0, 1, 1, 1)], 4_194_305)?;
-    no_map(&rt, &[unit(0, 0, 2, 5)], 64)?;
-    no_map(&rt, &[unit(0, 4, 0, 5)], 64)?;
-    no_map(&rt, &[unit(0, 4, 2, 0)], 64)
+fn maps_refused_for_counts(rt: HostRuntime) {
+    no_map(&rt, &[], 64);
+    no_map(&rt, &[unit(0, 1, 1, 1); 16], 64);
+    no_map(&rt, &[unit(0, 1, 1, 1)], 4_194_305);
+    no_map(&rt, &[unit(0, 0, 2, 5)], 64);
+    no_map(&rt, &[unit(0, 4, 0, 5)], 64);
+    no_map(&rt, &[unit(0, 4, 2, 0)], 64);
 }
 
 #[test]
-fn maps_refused_for_overlap_and_end(rt: HostRuntime) -> Result<(), Fail> {
-    no_map(&rt, &[unit(0, 4, 2, 5), unit(39, 3, 1, 8)], 64)?;
-    no_map(&rt, &[unit(24, 4, 2, 5), unit(1, 3, 1, 8)], 64)?;
+fn maps_refused_for_overlap_and_end(rt: HostRuntime) {
+    no_map(&rt, &[unit(0, 4, 2, 5), unit(39, 3, 1, 8)], 64);
+    no_map(&rt, &[unit(24, 4, 2, 5), unit(1, 3, 1, 8)], 64);
     no_map(
         &rt,
         &[unit(0, 1, 1, 9), unit(20, 1, 1, 9), unit(8, 1, 1, 9)],
         64,
-    )?;
-    no_map(&rt, &[unit(0, 4, 2, 5), unit(41, 3, 1, 8)], 64)?;
-    no_map(&rt, &[unit(25, 4, 2, 5)], 64)?;
-    no_map(&rt, &[unit(4_294_967_295, 65_535, 255, 255)], 4_194_304)
+    );
+    no_map(&rt, &[unit(0, 4, 2, 5), unit(41, 3, 1, 8)], 64);
+    no_map(&rt, &[unit(25, 4, 2, 5)], 64);
+    no_map(&rt, &[unit(4_294_967_295, 65_535, 255, 255)], 4_194_304);
 }
 
 #[test]
@@ -62,10 +56,7 @@ fn what_a_map_answers(rt: HostRuntime) -> Result<(), Fail> {
 
 #[test]
 fn fifteen_units(rt: HostRuntime) -> Result<(), Fail> {
-    let mut units = [unit(0, 1, 1, 1); 15];
-    for n in 0..15u8 {
-        units[n as usize] = unit(4_194_289 + u32::from(14 - n), 1, 1, 1);
-    }
+    let units: [Unit; 15] = array::from_fn(|n| unit(4_194_303 - n as u32, 1, 1, 1));
     let map = UnitMap::new(&units, 4_194_304)?;
     assert_eq!(rt; map.count(), 15);
     for n in 0..15u8 {

@@ -1,6 +1,5 @@
 use crate::small::unit;
-use flex::geometry::*;
-use flex::vector::*;
+use flex::vector::Vector;
 
 fn vector(cylinder: u32, head: u8, sector: u16) -> Vector {
     Vector {

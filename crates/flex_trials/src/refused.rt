@@ -1,9 +1,8 @@
 use crate::small::two_units;
-use flex::status::*;
-use message::command::*;
+use flex::status::Status;
 use message::decode::decode;
-use message::message::*;
-use message::parameters::*;
+use message::message::Message;
+use message::parameters::Parameters;
 use std::process::Abort;
 use std::test::Fail;
 
@@ -107,16 +106,16 @@ fn the_first_fault_counts(rt: HostRuntime) -> Result<(), Fail> {
 fn short_operands(rt: HostRuntime) -> Result<(), Fail> {
     let map = two_units()?;
     let own = Parameters::power_on();
-    let messages = [[0x10u8, 0, 0, 0, 0, 0, 0], [0x11, 0, 0, 0, 0, 0, 0]];
+    let messages: [&[u8]; 3] = [
+        &[0x10, 0, 0, 0, 0, 0, 0],
+        &[0x11, 0, 0, 0, 0, 0, 0],
+        &[0x18, 0, 0, 1, 0],
+    ];
     for message in messages {
-        for n in 1..7usize {
+        for n in 1..message.len() {
             let refused = Err(Status::MessageLength);
-            assert_eq!(rt; decode(&map, own, &message[0..n]), refused);
+            assert_eq!(rt; decode(&map, own, &message[..n]), refused);
         }
-    }
-    for n in 1..5usize {
-        let refused = Err(Status::MessageLength);
-        assert_eq!(rt; decode(&map, own, &[0x18, 0, 0, 1, 0][0..n]), refused);
     }
     Ok(())
 }
@@ -133,7 +132,6 @@ fn lengths_of_a_message(rt: HostRuntime) -> Result<(), Fail> {
     assert_eq!(rt; decode(&map, own, &[]), refused);
     assert_eq!(rt; decode(&map, own, &[0x34]), Ok(message));
     assert_eq!(rt; decode(&map, own, &[0x34; 1024]), Ok(message));
-    let refused = Err(Status::MessageLength);
     assert_eq!(rt; decode(&map, own, &[0x34; 1025]), refused);
     Ok(())
 }

@@ -1,5 +1,5 @@
-use flex::status::*;
-use message::command::*;
+use flex::status::Status;
+use message::command::Command;
 use std::test::Fail;
 
 #[test]

@@ -14,8 +14,8 @@ use Rattle.flex.specs.Maps.{unit_at}
 use Rattle.flex.specs.Statuses.{numbers_of}
 use Rattle.host.specs.declared.locks.Locks.{Locks}
 use Rattle.host.specs.declared.record.Host.{Host}
-use Rattle.host.specs.declared.transaction.Outcome.{Outcome}
-use Rattle.host.specs.declared.transaction.Outcome.TheVariants as outcomes
+use Rattle.host.specs.declared.transaction.Failure.{Failure}
+use Rattle.host.specs.declared.transaction.Failure.TheVariants as failures
 use Rattle.host.specs.declared.transaction.Phase.TheVariants as phases
 use Rattle.host.specs.declared.transaction.Transaction.{Transaction}
 use Rattle.host.specs.declared.want.Want.{Want}
@@ -110,7 +110,7 @@ abbrev pub blocks_asked : ℕ → ℕ → ℕ
 blocks_asked size amount = cond (amount == 0xffff_ffff) size (amount / 256)
 
 -- A transaction that goes straight to its report.
-abbrev pub reporting : Option Command → ℕ → Outcome → Transaction
+abbrev pub reporting : Option Command → ℕ → Option Failure → Transaction
 reporting k u o = record { command = k; unit = u; phase = phases.Report; at = 0; left = 0; outcome = o }
 
 -- Blocks to move: they must begin in the unit and not pass its end, else the report is 8/5; none at all go straight to the report.
@@ -121,9 +121,9 @@ abbrev pub moving : Option Command → ℕ → ℕ → ℕ → ℕ → Transacti
 moving k u size address count =
     cond (fits size address count)
     (cond (count == 0)
-    (reporting k u outcomes.Fine)
-    (record { command = k; unit = u; phase = phases.Execution; at = address; left = count; outcome = outcomes.Fine }))
-    (reporting k u outcomes.EndOfVolume)
+    (reporting k u None)
+    (record { command = k; unit = u; phase = phases.Execution; at = address; left = count; outcome = None }))
+    (reporting k u (Some failures.EndOfVolume))
 
 abbrev pub moves : Option Command → Bool
 moves None = false
@@ -140,14 +140,14 @@ abbrev pub opened : UnitMap → Message → Transaction
 opened map m =
     cond (moves m.command)
     (moving m.command m.parameters.unit (unit_size map m.parameters.unit) m.parameters.address (blocks_asked (unit_size map m.parameters.unit) m.parameters.length))
-    (reporting m.command m.parameters.unit outcomes.Fine)
+    (reporting m.command m.parameters.unit None)
 
 -- The parameters are those that the message asks for, but 8/5 zeroes the target address.
-abbrev pub address_after : Outcome → ℕ → ℕ
-address_after outcomes.Fine address = address
-address_after outcomes.EndOfVolume address = 0
-address_after outcomes.UnitFault address = address
-address_after (outcomes.Unrecoverable a) address = address
+abbrev pub address_after : Option Failure → ℕ → ℕ
+address_after None address = address
+address_after (Some failures.EndOfVolume) address = 0
+address_after (Some failures.UnitFault) address = address
+address_after (Some (failures.Unrecoverable a)) address = address
 
 -- The host after its message is accepted. Its fault is forgotten.
 unfoldable pub accepted : UnitMap → Message → Host → Host

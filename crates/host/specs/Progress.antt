@@ -1,5 +1,6 @@
 -- How a transaction goes on: by segments, and to its end.
 use Rattle.std.specs.Prelude.{ℕ, ◌+◌, ◌-◌, ◌^◌, min, Bool, cond, Some, None, Option, ◌==◌, nat_le}
+use Rattle.std.specs.Option.{option_or}
 use Rattle.flex.specs.declared.unit_map.UnitMap.{UnitMap}
 use Rattle.host.specs.declared.fault.HostFault.{HostFault}
 use Rattle.host.specs.declared.progress.Progress.{Progress}
@@ -42,8 +43,7 @@ advanced t p = record {
 
 -- Only the first fault is kept.
 abbrev pub first_fault : Option HostFault → Option HostFault → Option HostFault
-first_fault None new = new
-first_fault (Some f) new = Some f
+first_fault earlier new = option_or earlier new
 
 -- The target address becomes one past the last block tried.
 abbrev pub address_tried : ℕ → ℕ → ℕ → ℕ

@@ -1,48 +1,38 @@
 ghost use Rattle.std.specs.Prelude.{◌≡◌};
-ghost use Rattle.host.specs.Hosts.{any, no_locks, unit_lock};
+ghost use Rattle.host.specs.Hosts.{any, unit_lock};
 ghost use Rattle.host.specs.Messages.{locks_after, with_unit_lock};
 
+use flex::unit_map::UNITS;
 use message::command::Command;
 
-/// How many units can be locked: the controller has no lock.
-pub const UNITS: usize = 15;
-
-/// The locks that a host holds.
-#[derive(Clone, Copy)]
+/// The locks that a host holds, by default none. The controller has no lock.
+#[derive(Clone, Copy, Default)]
 pub struct Locks {
     pub device: bool,
     pub units: [bool; UNITS],
 }
 
 impl Locks {
-    /// No lock at all.
-    pub(super) fn none() -> Locks
-        ensures { result ≡ no_locks }
-    {
-        Locks {
-            device: false,
-            units: [false; UNITS],
-        }
-    }
-
     /// Whether the lock of that unit is held.
     pub fn has_unit(&self, unit: u8) -> bool
         ensures { result ≡ unit_lock self.now unit }
     {
-        usize::from(unit) < UNITS && self.units[usize::from(unit)]
+        self.units.get(usize::from(unit)).is_some_and(|held| *held)
     }
 
     /// Whether any unit's lock is held.
     pub(super) fn has_any_unit(&self) -> bool
         ensures { result ≡ any self.now.units }
     {
-        any(&self.units)
+        self.units.contains(&true)
     }
 
     /// Holds the lock of that unit, or holds it no more; there is none above the last unit.
+    #[tactic(auto, using(std::proofs::lemmas::List::set_past))]
     fn set_unit(&mut self, unit: u8, held: bool)
         ensures { self.new ≡ with_unit_lock self.old unit held }
     {
+        // By `get_mut` the proof doesn't close: its contract doesn't say what the array is once the place it lends is written.
         if usize::from(unit) < UNITS {
             self.units[usize::from(unit)] = held;
         }
@@ -60,16 +50,4 @@ impl Locks {
             Some(Command::Read | Command::Write | Command::Verify) | None => {}
         }
     }
-}
-
-/// Whether any lock of a list is held.
-fn any(locks: &[bool]) -> bool
-    ensures { result ≡ any locks.now }
-{
-    for lock in locks {
-        if *lock {
-            return true;
-        }
-    }
-    false
 }

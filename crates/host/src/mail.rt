@@ -14,6 +14,7 @@ pub struct Mail {
 
 impl Mail {
     /// No wait and no notice.
+    // The derived Default would be no plainer: a clear that leaves it says by this name what it leaves.
     pub fn silent() -> Mail
         ensures { result ≡ silent }
     {
@@ -66,7 +67,7 @@ impl Mail {
 pub fn settle(hosts: &[Host], mail: &mut [Mail])
     ensures { mail.new ≡ settle hosts.now mail.old }
 {
-    for place in 0..mail.len() {
-        mail[place] = mail[place].settled(hosts, place);
+    for (place, mail) in mail.iter_mut().enumerate() {
+        *mail = mail.settled(hosts, place);
     }
 }

@@ -1,6 +1,6 @@
-ghost use Rattle.std.specs.Prelude.{◌≡◌, ◌<◌, length, Ok};
-ghost use Rattle.host.specs.Hosts.{another, at_start, cleared, has_anything, has_locked, has_taken, is_another, on, stands};
-ghost use Rattle.host.specs.Messages.{accepted, address_refused, judged, on_its_unit, opened, ready, refused};
+ghost use Rattle.std.specs.Prelude.{◌≡◌, Ok};
+ghost use Rattle.host.specs.Hosts.{another, at_start, cleared, has_anything, has_locked, has_taken, on, stands};
+ghost use Rattle.host.specs.Messages.{accepted, judged, on_its_unit, opened, ready, refused};
 ghost use Rattle.host.specs.Progress.{ended, moved_by};
 
 use super::fault::HostFault;
@@ -9,13 +9,10 @@ use super::progress::Progress;
 use super::transaction::{Phase, Transaction};
 use super::want::Want;
 use flex::status::Status;
-use flex::unit_map::UnitMap;
+use flex::unit_map::{CONTROLLER, UnitMap};
 use message::decode::decode;
 use message::message::Message;
 use message::parameters::Parameters;
-
-/// The number of the controller, which no command on a unit may have in effect.
-const CONTROLLER: u8 = 15;
 
 /// All that the device keeps of one host, but for its mail.
 #[derive(Clone, Copy)]
@@ -47,7 +44,7 @@ impl Host {
         Host {
             parameters: Parameters::power_on(),
             interlocked: false,
-            locks: Locks::none(),
+            locks: Locks::default(),
             transaction: None,
             fault: None,
         }
@@ -57,10 +54,8 @@ impl Host {
     fn is_on(&self, unit: u8) -> bool
         ensures { result ≡ on self.now unit }
     {
-        match self.transaction {
-            Some(transaction) => transaction.is_on(unit),
-            None => false,
-        }
+        self.transaction
+            .is_some_and(|transaction| transaction.is_on(unit))
     }
 
     /// Whether it has any lock or an open transaction.
@@ -81,10 +76,11 @@ impl Host {
     fn has_taken(&self, unit: u8) -> bool
         ensures { result ≡ has_taken self.now unit }
     {
-        self.locks.device || self.locks.has_unit(unit) || self.is_on(unit)
+        self.has_locked(unit) || self.is_on(unit)
     }
 
     /// Whether it stands in the way of what another host asks for.
+    #[tactic(auto, unfolding(crate::specs::Hosts::stands))]
     pub fn stands_in_way(&self, want: Want) -> bool
         ensures { result ≡ stands want self.now }
     {
@@ -113,6 +109,7 @@ impl Host {
     }
 
     /// What of a command message comes to the lock check, or the first status before it.
+    #[tactic(auto, unfolding(crate::specs::Messages::judged))]
     pub fn judge(&self, map: &UnitMap, reaches: bool, bytes: &[u8]) -> Result<Message, Status>
         ensures { result ≡ judged map.now reaches self.now bytes.now }
     {
@@ -121,13 +118,17 @@ impl Host {
     }
 
     /// What a refused message leaves.
+    #[tactic(auto, unfolding(crate::specs::Messages::refused))]
     pub fn refuse(&mut self, status: Status)
         ensures { self.new ≡ refused status self.old }
     {
-        self.parameters.address = address_refused(status, self.parameters.address);
+        if status == Status::AddressBounds {
+            self.parameters.address = 0;
+        }
     }
 
     /// Takes a message with nothing in its way, and says what the transaction that it opens waits for.
+    #[tactic(auto, unfolding(crate::specs::Messages::accepted))]
     pub fn accept(&mut self, map: &UnitMap, message: Message) -> Phase
         ensures waits { result ≡ (opened map.now message).phase }
         ensures left { self.new ≡ accepted map.now message self.old }
@@ -138,7 +139,7 @@ impl Host {
         } = message;
         let transaction = Transaction::opened(map, message);
         self.parameters = Parameters {
-            address: transaction.outcome.address_after(parameters.address),
+            address: transaction.address_after(parameters.address),
             ..parameters
         };
         self.locks.accept(command, parameters.unit);
@@ -170,42 +171,21 @@ impl Host {
 fn on_its_unit(message: Message) -> Result<Message, Status>
     ensures { result ≡ on_its_unit (Ok message) }
 {
-    match message.command {
-        Some(command) if command.on_unit() && message.parameters.unit == CONTROLLER => {
-            Err(Status::ModuleAddressing)
-        }
-        _ => Ok(message),
+    let on_unit = message.command.is_some_and(|command| command.on_unit());
+    if on_unit && message.parameters.unit == CONTROLLER {
+        return Err(Status::ModuleAddressing);
     }
-}
-
-/// The target address after a refusal.
-fn address_refused(status: Status, address: u32) -> u32
-    ensures { result ≡ address_refused status address }
-{
-    match status {
-        Status::AddressBounds => 0,
-        _ => address,
-    }
-}
-
-/// Whether the host at one place stands in the way of what the host at another asks for.
-fn stands_at(hosts: &[Host], other: usize, place: usize, want: Want) -> bool
-    requires { other < length hosts.now }
-    ensures { result ≡ is_another (stands want) place hosts.now other }
-{
-    other != place && hosts[other].stands_in_way(want)
+    Ok(message)
 }
 
 /// Whether a host other than the one at that place stands in the way of what that one asks for.
 pub(super) fn another_stands(hosts: &[Host], place: usize, want: Want) -> bool
     ensures { result ≡ another (stands want) place hosts.now }
 {
-    for other in 0..hosts.len() {
-        if stands_at(hosts, other, place, want) {
-            return true;
-        }
-    }
-    false
+    hosts
+        .iter()
+        .enumerate()
+        .any(|(other, host)| other != place && host.stands_in_way(want))
 }
 
 /// Whether something stands in the way of what a host asks for.

@@ -8,9 +8,10 @@ use flex::unit_map::UnitMap;
 use message::command::Command;
 use message::message::Message;
 use message::parameters::WHOLE_UNIT;
+use store::fault::BLOCK_BYTES;
 
 /// The bytes of a block.
-const BLOCK: u32 = 256;
+const BLOCK: u32 = BLOCK_BYTES as u32;
 /// The most blocks of a segment.
 const SEGMENT: u32 = 32;
 
@@ -21,29 +22,15 @@ pub enum Phase {
     Report,
 }
 
-/// What a transaction has to report so far.
+/// What went wrong in a transaction.
 #[derive(Clone, Copy, PartialEq, Eq, Debug)]
-pub enum Outcome {
-    /// Nothing went wrong.
-    Fine,
+pub enum Failure {
     /// The blocks asked for pass the unit's end.
     EndOfVolume,
     /// A block could not be written.
     UnitFault,
     /// A block could not be read: its address in the unit.
     Unrecoverable(u32),
-}
-
-impl Outcome {
-    /// The target address after a transaction is opened with this outcome, where the message asks for that address.
-    pub(super) fn address_after(self, address: u32) -> u32
-        ensures { result ≡ address_after self address }
-    {
-        match self {
-            Outcome::EndOfVolume => 0,
-            Outcome::Fine | Outcome::UnitFault | Outcome::Unrecoverable(_) => address,
-        }
-    }
 }
 
 /// What stands to be done for a host.
@@ -57,12 +44,13 @@ pub struct Transaction {
     pub at: u32,
     /// How many blocks are still to be moved.
     pub left: u32,
-    pub outcome: Outcome,
+    /// What there is to report so far: the first failure, if there was one.
+    pub outcome: Option<Failure>,
 }
 
 impl Transaction {
     /// A transaction that goes straight to its report.
-    fn reporting(command: Option<Command>, unit: u8, outcome: Outcome) -> Transaction
+    fn reporting(command: Option<Command>, unit: u8, outcome: Option<Failure>) -> Transaction
         ensures { result ≡ reporting command unit outcome }
     {
         Transaction {
@@ -86,10 +74,10 @@ impl Transaction {
         ensures { result ≡ moving command unit size address count }
     {
         if !fits(size, address, count) {
-            return Transaction::reporting(command, unit, Outcome::EndOfVolume);
+            return Transaction::reporting(command, unit, Some(Failure::EndOfVolume));
         }
         if count == 0 {
-            return Transaction::reporting(command, unit, Outcome::Fine);
+            return Transaction::reporting(command, unit, None);
         }
         Transaction {
             command,
@@ -97,7 +85,7 @@ impl Transaction {
             phase: Phase::Execution,
             at: address,
             left: count,
-            outcome: Outcome::Fine,
+            outcome: None,
         }
     }
 
@@ -110,11 +98,21 @@ impl Transaction {
             command,
         } = message;
         if !moves(command) {
-            return Transaction::reporting(command, parameters.unit, Outcome::Fine);
+            return Transaction::reporting(command, parameters.unit, None);
         }
         let size = unit_size(map, parameters.unit);
         let count = blocks_asked(size, parameters.length);
         Transaction::moving(command, parameters.unit, size, parameters.address, count)
+    }
+
+    /// The target address after it is opened, where the message asks for that address.
+    pub(super) fn address_after(&self, address: u32) -> u32
+        ensures { result ≡ address_after self.now.outcome address }
+    {
+        match self.outcome {
+            Some(Failure::EndOfVolume) => 0,
+            Some(Failure::UnitFault | Failure::Unrecoverable(_)) | None => address,
+        }
     }
 
     /// Whether the blocks that it has left to move end in its unit.
@@ -173,10 +171,8 @@ impl Transaction {
     pub(super) fn is_on(&self, unit: u8) -> bool
         ensures { result ≡ is_on self.now unit }
     {
-        match self.command {
-            Some(command) => command.on_unit() && self.unit == unit,
-            None => false,
-        }
+        self.command
+            .is_some_and(|command| command.on_unit() && self.unit == unit)
     }
 }
 
@@ -184,10 +180,7 @@ impl Transaction {
 fn unit_size(map: &UnitMap, unit: u8) -> u32
     ensures { result ≡ unit_size map.now unit }
 {
-    match map.unit(unit) {
-        Some(unit) => unit.geometry.size(),
-        None => 0,
-    }
+    map.unit(unit).map_or(0, |unit| unit.geometry.size())
 }
 
 /// A length in blocks, in a unit of that size.
@@ -212,14 +205,8 @@ fn fits(size: u32, address: u32, count: u32) -> bool
 fn moves(command: Option<Command>) -> bool
     ensures { result ≡ moves command }
 {
-    match command {
-        Some(Command::Read | Command::Write | Command::Verify) => true,
-        Some(
-            Command::SetDeviceLock
-            | Command::DeleteDeviceLock
-            | Command::SetUnitLock
-            | Command::DeleteUnitLock,
-        )
-        | None => false,
-    }
+    matches!(
+        command,
+        Some(Command::Read | Command::Write | Command::Verify)
+    )
 }

@@ -21,6 +21,7 @@ pub enum Want {
 
 impl Want {
     /// What a message asks for.
+    // By name, where `From` would be no plainer: it is a part of the message and not the message in another form.
     pub fn of(message: Message) -> Want
         ensures { result ≡ wanted message }
     {

@@ -1,5 +1,5 @@
 -- A store of which one run is protected besides.
-use Rattle.std.specs.Prelude.{◌≡◌, ℕ, ◌-◌, Bool, true, false, cond, ◌&&◌, List, length, Some, None, Ok, Err, Option, Result, nat_le, nat_lt}
+use Rattle.std.specs.Prelude.{◌≡◌, ℕ, Bool, true, false, cond, List, length, Some, None, Ok, Err, Option, Result}
 use Rattle.std.proofs.Common.{sym, ap, subst}
 use Rattle.std.specs.List.{slice_get}
 use Rattle.std.specs.Option.{option_map}
@@ -7,59 +7,57 @@ use Rattle.store.specs.declared.fault.StoreFault.{StoreFault}
 use Rattle.store.specs.declared.fault.Protection.{Protection}
 use Rattle.store.specs.declared.fault.Protection.TheVariants as protections
 use Rattle.store.specs.Blocks.{Block, written, Whole, Sized, Lawful}
+use Rattle.layer.specs.declared.run.Run.{Run}
 use Rattle.layer.specs.declared.guard.WriteGuard.{WriteGuard}
+use Rattle.layer.specs.Runs.{in_run}
 use Rattle.store.specs.Each.{each, length_each, nth_each}
-
--- Block i is one of the run of `count` blocks from `first` on. The run may hang over the store's end.
-abbrev pub in_run : ℕ → ℕ → ℕ → Bool
-in_run first count i = nat_le first i && nat_lt (i - first) count
 
 -- A block of the run is protected, whatever it is below; any other is as it is below.
 abbrev pub shut : Bool → Block → Block
 shut true k = record { contents = k.contents; protection = protections.Protected }
 shut false k = k
 
-abbrev pub guard : List Block → ℕ → ℕ → List Block
-guard bs first count = each (λ i. shut (in_run first count i)) bs
+abbrev pub guard : List Block → Run → List Block
+guard bs run = each (λ i. shut (in_run run i)) bs
 
 -- What a write guard shows of what the store below has.
 abbrev pub guarded : {S : Type 0} → (S → List Block) → WriteGuard S → List Block
-guarded below w = guard (below w.below) w.first w.count
+guarded below w = guard (below w.below) w.run
 
 -- The answer to the protection question, from the answer below: protected in the run, if there is such a block.
 abbrev pub tightened : Result Protection StoreFault → Bool → Result Protection StoreFault
-tightened (Ok p) run = Ok (cond run protections.Protected p)
-tightened (Err e) run = Err e
+tightened (Ok p) covered = Ok (cond covered protections.Protected p)
+tightened (Err e) covered = Err e
 
 -- The store below after a write to block b: not touched where b is in the run.
-abbrev pub guard_below : List Block → ℕ → ℕ → ℕ → List ℕ → List Block
-guard_below bs first count b bytes = cond (in_run first count b) bs (written bs b bytes)
+abbrev pub guard_below : List Block → Run → ℕ → List ℕ → List Block
+guard_below bs run b bytes = cond (in_run run b) bs (written bs b bytes)
 
 -- Every block of the run is after as it was before.
-abbrev pub RunStays : List Block → List Block → ℕ → ℕ → Type 0
-RunStays before after first count = (j : ℕ) → in_run first count j ≡ true → slice_get after j ≡ slice_get before j
+abbrev pub RunStays : List Block → List Block → Run → Type 0
+RunStays before after run = (j : ℕ) → in_run run j ≡ true → slice_get after j ≡ slice_get before j
 
 -- Block i of the guarded store, and that it is lawful if the store is.
-module _ (bs : List Block) (first count : ℕ) where
-  pub length_guard : length (guard bs first count) ≡ length bs
-  length_guard = length_each (λ i. shut (in_run first count i)) bs
+module _ (bs : List Block) (run : Run) where
+  pub length_guard : length (guard bs run) ≡ length bs
+  length_guard = length_each (λ i. shut (in_run run i)) bs
 
-  pub nth_guard : (i : ℕ) → slice_get (guard bs first count) i ≡ option_map (shut (in_run first count i)) (slice_get bs i)
-  nth_guard i = nth_each (λ j. shut (in_run first count j)) bs i
+  pub nth_guard : (i : ℕ) → slice_get (guard bs run) i ≡ option_map (shut (in_run run i)) (slice_get bs i)
+  nth_guard i = nth_each (λ j. shut (in_run run j)) bs i
 
   whole_shut : (o : Option Block) (b : Bool) → Whole o → Whole (option_map (shut b) o)
   whole_shut None b h = h
   whole_shut (Some k) true h = h
   whole_shut (Some k) false h = h
 
-  guard_sized : Sized bs → Sized (guard bs first count)
+  guard_sized : Sized bs → Sized (guard bs run)
   guard_sized s = record {
     few = rw length_guard s.few;
-    whole = λ i. subst Whole (sym (nth_guard i)) (whole_shut (slice_get bs i) (in_run first count i) (s.whole i));
+    whole = λ i. subst Whole (sym (nth_guard i)) (whole_shut (slice_get bs i) (in_run run i) (s.whole i));
   }
 
-pub guard_lawful : (blocks stored : List Block) (Settled : Type 0) (first count : ℕ) → Lawful blocks stored Settled → Lawful (guard blocks first count) (guard stored first count) Settled
-guard_lawful blocks stored Settled first count l = record {
-  sized = guard_sized blocks first count l.sized;
-  holds = λ s. ap (λ bs. guard bs first count) (l.holds s);
+pub guard_lawful : (blocks stored : List Block) (Settled : Type 0) (run : Run) → Lawful blocks stored Settled → Lawful (guard blocks run) (guard stored run) Settled
+guard_lawful blocks stored Settled run l = record {
+  sized = guard_sized blocks run l.sized;
+  holds = λ s. ap (λ bs. guard bs run) (l.holds s);
 }

@@ -5,30 +5,36 @@ use Rattle.std.specs.List.{slice_get}
 use Rattle.std.proofs.lemmas.List.{length-take, length-drop}
 use Rattle.std.proofs.lemmas.Option.{slice_get_past}
 use Rattle.std.proofs.lemmas.Bool.{cases_lt}
+use Rattle.store.specs.declared.fault.FaultKind.TheVariants as kinds
 use Rattle.store.specs.declared.fault.StoreFault.{StoreFault}
 use Rattle.store.specs.Blocks.{Block, fault, written, Whole, Sized, Lawful}
+use Rattle.layer.specs.declared.run.Run.{Run}
 use Rattle.layer.specs.declared.window.Window.{Window}
 
 -- The blocks from the first on, as many as the count and as the store has.
-abbrev pub window : List Block → ℕ → ℕ → List Block
-window bs first count = take count (drop first bs)
+abbrev pub window : List Block → Run → List Block
+window bs run = take run.count (drop run.first bs)
 
 -- What a window shows of what the store below has.
 abbrev pub windowed : {S : Type 0} → (S → List Block) → Window S → List Block
-windowed below w = window (below w.below) w.first w.count
+windowed below w = window (below w.below) w.run
 
 -- A fault from below is given with the number that the window's user gave; nothing else is changed.
 abbrev pub renumbered : {T : Type 0} → Result T StoreFault → ℕ → Result T StoreFault
 renumbered (Ok x) b = Ok x
 renumbered (Err e) b = Err (fault e.kind b)
 
+-- The number below of block b of the window; a number not below the window's count is beyond.
+abbrev pub number_below : List Block → Run → ℕ → Result ℕ StoreFault
+number_below bs run b = cond (nat_lt b (length (window bs run))) (Ok (run.first + b)) (Err (fault kinds.Beyond b))
+
 -- The store below after a write to block b of the window: written at its own number, if the window has the block.
-abbrev pub window_below : List Block → ℕ → ℕ → ℕ → List ℕ → List Block
-window_below bs first count b bytes = cond (nat_lt b (length (window bs first count))) (written bs (first + b) bytes) bs
+abbrev pub window_below : List Block → Run → ℕ → List ℕ → List Block
+window_below bs run b bytes = cond (nat_lt b (length (window bs run))) (written bs (run.first + b) bytes) bs
 
 -- Every block outside the run is after as it was before.
-abbrev pub OutsideStays : List Block → List Block → ℕ → ℕ → Type 0
-OutsideStays before after first count = (j : ℕ) → (j < first) ⊎ (first + count ≤ j) → slice_get after j ≡ slice_get before j
+abbrev pub OutsideStays : List Block → List Block → Run → Type 0
+OutsideStays before after run = (j : ℕ) → (j < run.first) ⊎ (run.first + run.count ≤ j) → slice_get after j ≡ slice_get before j
 
 nth_drop : {X : Type 0} (f : ℕ) (xs : List X) (i : ℕ) → slice_get (drop f xs) i ≡ slice_get xs (f + i)
 nth_drop zero xs i = ap (slice_get xs) (sym (zero-add i))
@@ -42,25 +48,25 @@ nth_take (suc n) (x ∷ xs) zero h = refl
 nth_take (suc n) (x ∷ xs) (suc i) h = nth_take n xs i (omega arith)
 
 -- Block i of the window is block first + i of the store, and a window of a lawful store is lawful.
-module _ (bs : List Block) (first count : ℕ) where
-  pub length_window : length (window bs first count) ≡ min count (length bs - first)
-  length_window = length-take count (drop first bs) ∙ ap (min count) (length-drop first bs)
+module _ (bs : List Block) (run : Run) where
+  pub length_window : length (window bs run) ≡ min run.count (length bs - run.first)
+  length_window = length-take run.count (drop run.first bs) ∙ ap (min run.count) (length-drop run.first bs)
 
-  pub nth_window : (i : ℕ) → i < count → slice_get (window bs first count) i ≡ slice_get bs (first + i)
-  nth_window i h = nth_take count (drop first bs) i h ∙ nth_drop first bs i
+  pub nth_window : (i : ℕ) → i < run.count → slice_get (window bs run) i ≡ slice_get bs (run.first + i)
+  nth_window i h = nth_take run.count (drop run.first bs) i h ∙ nth_drop run.first bs i
 
-  window_sized : Sized bs → Sized (window bs first count)
+  window_sized : Sized bs → Sized (window bs run)
   window_sized s = record {
     few = let f = s.few in omega (arith, length_window);
     whole = λ i.
-        elim (cases_lt i count) [
-          | inl h ↦ subst Whole (sym (nth_window i h)) (s.whole (first + i))
-          | inr h ↦ subst Whole (sym (slice_get_past (window bs first count) i (omega (arith, length_window)))) tt
+        elim (cases_lt i run.count) [
+          | inl h ↦ subst Whole (sym (nth_window i h)) (s.whole (run.first + i))
+          | inr h ↦ subst Whole (sym (slice_get_past (window bs run) i (omega (arith, length_window)))) tt
         ];
   }
 
-pub window_lawful : (blocks stored : List Block) (Settled : Type 0) (first count : ℕ) → Lawful blocks stored Settled → Lawful (window blocks first count) (window stored first count) Settled
-window_lawful blocks stored Settled first count l = record {
-  sized = window_sized blocks first count l.sized;
-  holds = λ s. ap (λ bs. window bs first count) (l.holds s);
+pub window_lawful : (blocks stored : List Block) (Settled : Type 0) (run : Run) → Lawful blocks stored Settled → Lawful (window blocks run) (window stored run) Settled
+window_lawful blocks stored Settled run l = record {
+  sized = window_sized blocks run l.sized;
+  holds = λ s. ap (λ bs. window bs run) (l.holds s);
 }

@@ -1,43 +1,27 @@
 ghost use Rattle.std.specs.Prelude.{◌≡◌};
 ghost use Rattle.store.specs.Blocks.{read_answer, read_buffer, write_answer, written};
-ghost use Rattle.layer.specs.Guards.{guarded, guard_lawful, guard_below, in_run, tightened, RunStays};
+ghost use Rattle.layer.specs.Guards.{guarded, guard_lawful, guard_below, RunStays};
 
+use super::run::Run;
 use store::fault::{BLOCK_BYTES, FaultKind, Protection, StoreFault};
 use store::store::Store;
 
 /// Protects one run of the store below, besides what is protected there.
+// One type for this and a window would be no plainer: what each means of its run differs, and what is alike, `new`,
+// `below`, `release` and `settle`, is of one line each.
 #[derive(Drop)]
 pub struct WriteGuard<S> {
     below: S,
-    first: u32,
-    count: u32,
-}
-
-/// The answer of the store below to the protection question, tightened where the run has the block.
-fn tighten(answer: Result<Protection, StoreFault>, covered: bool) -> Result<Protection, StoreFault>
-    ensures { result ≡ tightened answer covered }
-{
-    match answer {
-        Ok(below) => Ok(if covered {
-            Protection::Protected
-        } else {
-            below
-        }),
-        Err(e) => Err(e),
-    }
+    run: Run,
 }
 
 impl<S: Store> WriteGuard<S> {
-    /// Protects the `count` blocks from `first` on.
-    pub fn new(below: S, first: u32, count: u32) -> WriteGuard<S>
+    /// Protects the blocks of this run.
+    pub fn new(below: S, run: Run) -> WriteGuard<S>
         ensures below { result.below ≡ below }
-        ensures run { (result.first ≡ first) × (result.count ≡ count) }
+        ensures run { result.run ≡ run }
     {
-        WriteGuard {
-            below,
-            first,
-            count,
-        }
+        WriteGuard { below, run }
     }
 
     /// The store below.
@@ -51,19 +35,7 @@ impl<S: Store> WriteGuard<S> {
     pub fn release(self) -> S
         ensures { result ≡ self.below }
     {
-        let WriteGuard {
-            below,
-            first: _,
-            count: _,
-        } = self;
-        below
-    }
-
-    /// Whether the run has this block.
-    fn covers(&self, block: u32) -> bool
-        ensures { result ≡ in_run self.now.first self.now.count block }
-    {
-        self.first <= block && block - self.first < self.count
+        self.below
     }
 }
 
@@ -74,7 +46,7 @@ impl<S: Store> Store for WriteGuard<S> {
 
     ghost settled = { λ s. S.Store.settled s.below };
 
-    ghost lawful = { λ s. guard_lawful (S.Store.blocks s.below) (S.Store.stored s.below) (S.Store.settled s.below) s.first s.count (S.Store.lawful s.below) };
+    ghost lawful = { λ s. guard_lawful (S.Store.blocks s.below) (S.Store.stored s.below) (S.Store.settled s.below) s.run (S.Store.lawful s.below) };
 
     fn size(&self) -> u32 {
         self.below.size()
@@ -85,7 +57,7 @@ impl<S: Store> Store for WriteGuard<S> {
         ensures buffer { buffer.new ≡ read_buffer (guarded S.Store.blocks self.old) block buffer.old }
         ensures same { guarded S.Store.blocks self.new ≡ guarded S.Store.blocks self.old }
         ensures below { S.Store.blocks self.new.below ≡ S.Store.blocks self.old.below }
-        ensures run { (self.new.first ≡ self.old.first) × (self.new.count ≡ self.old.count) }
+        ensures run { self.new.run ≡ self.old.run }
     {
         self.below.read(block, buffer)
     }
@@ -93,40 +65,37 @@ impl<S: Store> Store for WriteGuard<S> {
     fn write(&mut self, block: u32, bytes: &[u8]) -> Result<(), StoreFault>
         ensures answer { result ≡ write_answer (guarded S.Store.blocks self.old) block bytes.now }
         ensures after { guarded S.Store.blocks self.new ≡ written (guarded S.Store.blocks self.old) block bytes.now }
-        ensures below { S.Store.blocks self.new.below ≡ guard_below (S.Store.blocks self.old.below) self.old.first self.old.count block bytes.now }
-        ensures stays { RunStays (S.Store.blocks self.old.below) (S.Store.blocks self.new.below) self.old.first self.old.count }
-        ensures run { (self.new.first ≡ self.old.first) × (self.new.count ≡ self.old.count) }
+        ensures below { S.Store.blocks self.new.below ≡ guard_below (S.Store.blocks self.old.below) self.old.run block bytes.now }
+        ensures stays { RunStays (S.Store.blocks self.old.below) (S.Store.blocks self.new.below) self.old.run }
+        ensures run { self.new.run ≡ self.old.run }
     {
         if bytes.len() != BLOCK_BYTES {
-            return Err(StoreFault {
-                kind: FaultKind::Length,
-                block,
-            });
+            return Err(FaultKind::Length.at(block));
         }
         if block >= self.below.size() {
-            return Err(StoreFault {
-                kind: FaultKind::Beyond,
-                block,
-            });
+            return Err(FaultKind::Beyond.at(block));
         }
-        if self.covers(block) {
-            return Err(StoreFault {
-                kind: FaultKind::Protected,
-                block,
-            });
+        if self.run.contains(block) {
+            return Err(FaultKind::Protected.at(block));
         }
         self.below.write(block, bytes)
     }
 
     fn protection(&self, block: u32) -> Result<Protection, StoreFault> {
-        tighten(self.below.protection(block), self.covers(block))
+        let below = self.below.protection(block)?;
+        let covered = self.run.contains(block);
+        Ok(if covered {
+            Protection::Protected
+        } else {
+            below
+        })
     }
 
     fn settle(&mut self)
         ensures same { guarded S.Store.blocks self.new ≡ guarded S.Store.blocks self.old }
         ensures settled { S.Store.settled self.new.below }
         ensures below { S.Store.blocks self.new.below ≡ S.Store.blocks self.old.below }
-        ensures run { (self.new.first ≡ self.old.first) × (self.new.count ≡ self.old.count) }
+        ensures run { self.new.run ≡ self.old.run }
     {
         self.below.settle()
     }

@@ -1,4 +1,5 @@
 #![tactic(auto)]
 
 pub mod guard;
+pub mod run;
 pub mod window;

@@ -1,42 +1,33 @@
-ghost use Rattle.std.specs.Prelude.{◌≡◌, ◌+◌, length, if◌then◌else◌, Some, None, nat_lt};
+ghost use Rattle.std.specs.Prelude.{◌≡◌};
 ghost use Rattle.store.specs.Blocks.{read_answer, read_buffer, write_answer, written};
-ghost use Rattle.layer.specs.Windows.{windowed, window_lawful, window_below, renumbered, OutsideStays};
+ghost use Rattle.layer.specs.Windows.{windowed, window_lawful, number_below, window_below, renumbered, OutsideStays};
 
+use super::run::Run;
 use store::fault::{BLOCK_BYTES, FaultKind, Protection, StoreFault};
 use store::store::Store;
 
 /// A run of the blocks of the store below, cut at its end and numbered from 0.
+// A type of its own: see `WriteGuard`.
 #[derive(Drop)]
 pub struct Window<S> {
     below: S,
-    first: u32,
-    count: u32,
+    run: Run,
 }
 
 /// A fault of the store below, with the block's number as the window counts it.
 fn renumber<T>(r: Result<T, StoreFault>, block: u32) -> Result<T, StoreFault>
     ensures { result ≡ renumbered r block }
 {
-    match r {
-        Ok(x) => Ok(x),
-        Err(e) => Err(StoreFault {
-            kind: e.kind,
-            block,
-        }),
-    }
+    r.map_err(|fault| fault.kind.at(block))
 }
 
 impl<S: Store> Window<S> {
-    /// The window on `count` blocks from `first` on.
-    pub fn new(below: S, first: u32, count: u32) -> Window<S>
+    /// The window on the blocks of this run.
+    pub fn new(below: S, run: Run) -> Window<S>
         ensures below { result.below ≡ below }
-        ensures run { (result.first ≡ first) × (result.count ≡ count) }
+        ensures run { result.run ≡ run }
     {
-        Window {
-            below,
-            first,
-            count,
-        }
+        Window { below, run }
     }
 
     /// The store below.
@@ -50,22 +41,17 @@ impl<S: Store> Window<S> {
     pub fn release(self) -> S
         ensures { result ≡ self.below }
     {
-        let Window {
-            below,
-            first: _,
-            count: _,
-        } = self;
-        below
+        self.below
     }
 
     /// The number that a block of the window has below.
-    fn place(&self, block: u32) -> Option<u32>
-        ensures { result ≡ (if nat_lt block (length (windowed S.Store.blocks self.now)) then Some (self.now.first + block) else None) }
+    fn place(&self, block: u32) -> Result<u32, StoreFault>
+        ensures { result ≡ number_below (S.Store.blocks self.now.below) self.now.run block }
     {
         if block < self.size() {
-            Some(self.first + block)
+            Ok(self.run.first + block)
         } else {
-            None
+            Err(FaultKind::Beyond.at(block))
         }
     }
 }
@@ -77,10 +63,10 @@ impl<S: Store> Store for Window<S> {
 
     ghost settled = { λ s. S.Store.settled s.below };
 
-    ghost lawful = { λ s. window_lawful (S.Store.blocks s.below) (S.Store.stored s.below) (S.Store.settled s.below) s.first s.count (S.Store.lawful s.below) };
+    ghost lawful = { λ s. window_lawful (S.Store.blocks s.below) (S.Store.stored s.below) (S.Store.settled s.below) s.run (S.Store.lawful s.below) };
 
     fn size(&self) -> u32 {
-        self.count.min(self.below.size().saturating_sub(self.first))
+        self.run.count_in(self.below.size())
     }
 
     fn read(&mut self, block: u32, buffer: &mut [u8]) -> Result<(), StoreFault>
@@ -88,60 +74,39 @@ impl<S: Store> Store for Window<S> {
         ensures buffer { buffer.new ≡ read_buffer (windowed S.Store.blocks self.old) block buffer.old }
         ensures same { windowed S.Store.blocks self.new ≡ windowed S.Store.blocks self.old }
         ensures below { S.Store.blocks self.new.below ≡ S.Store.blocks self.old.below }
-        ensures run { (self.new.first ≡ self.old.first) × (self.new.count ≡ self.old.count) }
+        ensures run { self.new.run ≡ self.old.run }
     {
         if buffer.len() != BLOCK_BYTES {
-            return Err(StoreFault {
-                kind: FaultKind::Length,
-                block,
-            });
+            return Err(FaultKind::Length.at(block));
         }
-        match self.place(block) {
-            Some(at) => renumber(self.below.read(at, buffer), block),
-            None => Err(StoreFault {
-                kind: FaultKind::Beyond,
-                block,
-            }),
-        }
+        let at = self.place(block)?;
+        renumber(self.below.read(at, buffer), block)
     }
 
     fn write(&mut self, block: u32, bytes: &[u8]) -> Result<(), StoreFault>
         ensures answer { result ≡ write_answer (windowed S.Store.blocks self.old) block bytes.now }
         ensures after { windowed S.Store.blocks self.new ≡ written (windowed S.Store.blocks self.old) block bytes.now }
-        ensures below { S.Store.blocks self.new.below ≡ window_below (S.Store.blocks self.old.below) self.old.first self.old.count block bytes.now }
-        ensures outside { OutsideStays (S.Store.blocks self.old.below) (S.Store.blocks self.new.below) self.old.first self.old.count }
-        ensures run { (self.new.first ≡ self.old.first) × (self.new.count ≡ self.old.count) }
+        ensures below { S.Store.blocks self.new.below ≡ window_below (S.Store.blocks self.old.below) self.old.run block bytes.now }
+        ensures outside { OutsideStays (S.Store.blocks self.old.below) (S.Store.blocks self.new.below) self.old.run }
+        ensures run { self.new.run ≡ self.old.run }
     {
         if bytes.len() != BLOCK_BYTES {
-            return Err(StoreFault {
-                kind: FaultKind::Length,
-                block,
-            });
+            return Err(FaultKind::Length.at(block));
         }
-        match self.place(block) {
-            Some(at) => renumber(self.below.write(at, bytes), block),
-            None => Err(StoreFault {
-                kind: FaultKind::Beyond,
-                block,
-            }),
-        }
+        let at = self.place(block)?;
+        renumber(self.below.write(at, bytes), block)
     }
 
     fn protection(&self, block: u32) -> Result<Protection, StoreFault> {
-        match self.place(block) {
-            Some(at) => renumber(self.below.protection(at), block),
-            None => Err(StoreFault {
-                kind: FaultKind::Beyond,
-                block,
-            }),
-        }
+        let at = self.place(block)?;
+        renumber(self.below.protection(at), block)
     }
 
     fn settle(&mut self)
         ensures same { windowed S.Store.blocks self.new ≡ windowed S.Store.blocks self.old }
         ensures settled { S.Store.settled self.new.below }
         ensures below { S.Store.blocks self.new.below ≡ S.Store.blocks self.old.below }
-        ensures run { (self.new.first ≡ self.old.first) × (self.new.count ≡ self.old.count) }
+        ensures run { self.new.run ≡ self.old.run }
     {
         self.below.settle()
     }

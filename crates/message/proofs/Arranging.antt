@@ -1,5 +1,5 @@
 -- Codes that are good, and one part more: it is taken, and they are good again, or it is at fault.
-use Rattle.std.proofs.Common.{◌≡◌, ℕ, true, not, ◌&&◌, List, [], ◌∷◌, ◌++◌, is_some, Some, None, Ok, Err, Option, sym, refl, ap, ◌∙◌, subst, inl, inr, ⊎_elim, arith}
+use Rattle.std.proofs.Common.{◌≡◌, ℕ, true, not, ◌&&◌, List, [], ◌∷◌, ◌++◌, is_some, Some, None, Ok, Err, Option, sym, refl, ap, ◌∙◌, subst, inl, inr, ⊎_elim}
 use Rattle.std.proofs.lemmas.List.{append_assoc, append-nil}
 use Rattle.std.proofs.lemmas.Bool.{and_from, and_parts}
 use Rattle.std.specs.Option.{option_map}
@@ -42,11 +42,11 @@ others_push (real k ∷ qs) rs = ap (λ l. real k ∷ l) (others_push qs rs)
 -- a draft takes what is allowed, and nothing else
 no_some : {A : Type 0} (o : Option A) → not (is_some o) ≡ true → o ≡ None
 no_some None e = refl
-no_some (Some x) e = let z : ◌≡◌ {A = ℕ} 0 1 = cc in absurd (omega arith)
+no_some (Some x) e = cc
 
 no_mapped : {A B : Type 0} (f : A → B) (o : Option A) → not (is_some (option_map f o)) ≡ true → o ≡ None
 no_mapped f None e = refl
-no_mapped f (Some x) e = let z : ◌≡◌ {A = ℕ} 0 1 = cc in absurd (omega arith)
+no_mapped f (Some x) e = cc
 
 none_there : {A : Type 0} (o : Option A) → o ≡ None → not (is_some o) ≡ true
 none_there o e = ap (λ p. not (is_some p)) e

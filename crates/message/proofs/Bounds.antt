@@ -1,6 +1,7 @@
 -- When a draft takes what a part sets: within its bounds, and only there.
 use Rattle.std.proofs.Common.{◌≡◌, ℕ, ◌%◌, ◌<◌, ◌||◌, eqb, ltb, get_or, Some, None, Ok, Err, Option, sym, refl, ap, ◌∙◌, inl, inr, ⊎_elim}
 use Rattle.std.proofs.lemmas.Bool.{both_ways, cases_Bool, cond-true, cond-false, eqb-true, eq-eqb, lt-ltb, ltb-true, or_cases, or_left, or_right}
+use Rattle.std.proofs.lemmas.Option.{none-some, cond_some}
 use Rattle.message.specs.declared.draft.Draft.{Draft}
 use Rattle.flex.specs.declared.geometry.Geometry.{Geometry}
 use Rattle.flex.specs.declared.status.Status.{Status}
@@ -12,20 +13,19 @@ use Rattle.flex.specs.Units.{blank}
 use Rattle.flex.specs.Maps.{unit_at, seen_as, geometry_at, no_places}
 use Rattle.message.specs.Messages.{effective, unit_seen, addressed, address_in, vector_in}
 use Rattle.message.specs.Arrangements.{Target, single, by_vector, Present, Inside, Measured, aimed_in, set_unit, set_address, set_length}
-use Rattle.flex.proofs.Cases.{not_there, some_passed}
 use Rattle.message.proofs.Cases.{not_both, ok_passed}
 use Rattle.flex.proofs.Places.{within_address, to_address, names}
 use Rattle.message.proofs.Reading.{given}
 
 -- a draft with another unit, address or length
 abbrev pub draft_unit : Draft → ℕ → Draft
-draft_unit d u = record { own = d.own; unit = Some u; address = d.address; length = d.length; command = d.command }
+draft_unit d u = record d { unit = Some u }
 
 abbrev pub draft_address : Draft → ℕ → Draft
-draft_address d address = record { own = d.own; unit = d.unit; address = Some address; length = d.length; command = d.command }
+draft_address d address = record d { address = Some address }
 
 abbrev pub draft_length : Draft → ℕ → Draft
-draft_length d n = record { own = d.own; unit = d.unit; address = d.address; length = Some n; command = d.command }
+draft_length d n = record d { length = Some n }
 
 module _ (m : UnitMap) where
   -- a unit is in the map, or is the controller, just where a message sees a geometry of it
@@ -35,7 +35,7 @@ module _ (m : UnitMap) where
       (λ t. inl (ltb-true _ _ t))
       (λ f.
       let none : unit_at m n ≡ None = cond-false _ (Some (get_or m.units n blank)) None f in
-      inr (eqb-true _ _ (some_passed (eqb n 15) no_places g (sym (ap (seen_as n) none) ∙ e)).0))
+      inr (eqb-true _ _ (cond_some (eqb n 15) no_places g (sym (ap (seen_as n) none) ∙ e)).0))
       (cases_Bool (ltb n m.count))
 
   pub present_to : (n : ℕ) → Present m n → (g : Geometry) × (geometry_at m n ≡ Some g)
@@ -76,13 +76,13 @@ module _ (m : UnitMap) where
   unplaced d (Some address) s e = absurd (not_both e)
 
   single_in : (o : Option Geometry) (a address : ℕ) → address_in o a ≡ Some address → (g : Geometry) × (o ≡ Some g) × (a < size_of g) × (address ≡ a)
-  single_in None a address e = absurd (not_there e)
+  single_in None a address e = absurd (none-some _ e)
   single_in (Some g) a address e =
-      let p = some_passed (ltb a (size_of g)) a address e in
+      let p = cond_some (ltb a (size_of g)) a address e in
       (g, refl, ltb-true _ _ p.0, sym p.1)
 
   vector_placed : (o : Option Geometry) (v : Vector) (address : ℕ) → vector_in o v ≡ Some address → (g : Geometry) × (o ≡ Some g) × Within g v × (address ≡ place_of g v)
-  vector_placed None v address e = absurd (not_there e)
+  vector_placed None v address e = absurd (none-some _ e)
   vector_placed (Some g) v address e = let p = within_address g v address e in (g, refl, p.0, p.1)
 
   module _ (d : Draft) where

@@ -13,8 +13,7 @@ use Rattle.message.specs.Arrangements.{Target, Part, no_op, set_unit, set_addres
 use Rattle.message.proofs.Arranging.{outline, drafted}
 use Rattle.message.proofs.Bounds.{draft_address, unit_to, target_to, length_to}
 use Rattle.message.proofs.Reading.{takes, given, step_part}
-use Rattle.message.proofs.Scanning.{scan_skip}
-use Rattle.message.proofs.Walking.{goes_on}
+use Rattle.message.proofs.Scanning.{goes_on, scan_skip}
 
 module _ (m : UnitMap) where
   -- one part, and then the others

@@ -9,7 +9,7 @@ use Rattle.flex.specs.declared.status.Status.TheVariants.{MessageLength}
 use Rattle.flex.specs.declared.unit_map.UnitMap.{UnitMap}
 use Rattle.message.specs.Decoding.{scan, completed, decoded}
 use Rattle.message.specs.Messages.{starting, finished}
-use Rattle.message.specs.Arrangements.{asked, Good, Accepted, AtFault, Accepts, Refuses}
+use Rattle.message.specs.Arrangements.{asked, Good, Accepted, AtFault, Refused, Accepts, Refuses}
 use Rattle.message.proofs.Arranging.{outline, finished_drafted}
 use Rattle.message.proofs.Cases.{not_both}
 use Rattle.message.proofs.Completing.{complete}
@@ -59,12 +59,9 @@ module _ (m : UnitMap) (own : Parameters) (bytes : List ℕ) where
       ∙ ap completed (complete m own bytes p.0 p.1)
       ∙ ap Ok (finished_drafted m own p.0 ∙ sym p.2)
 
-  pub accepts : Accepts m own bytes (decoded m own bytes)
-  accepts message = (accepted_from message, accepted_to message)
-
-  pub refuses : Refuses m own bytes (decoded m own bytes)
+  refused_from : (s : Status) → decoded m own bytes ≡ Err s → Refused m own bytes s
   unfolding decoded lengths
-  refuses s e =
+  refused_from s e =
       let whole = completed (scan m bytes 0 (starting own)) in
       ⊎_elim
       (λ t. let p = fitting t in inr (p.0, p.1, stopped _ s outcome (sym (cond-true lengths whole (Err MessageLength) t) ∙ e)))
@@ -73,3 +70,11 @@ module _ (m : UnitMap) (own : Parameters) (bytes : List ℕ) where
       let off : s ≡ MessageLength = cc in
       inl (λ l. both_ways lengths f (and_from _ _ (le-leb _ _ l.0) (le-leb _ _ l.1)), off))
       (cases_Bool lengths)
+
+  -- what is answered as `decoded` says keeps both laws
+  module _ (r : Result Message Status) (is : r ≡ decoded m own bytes) where
+    pub accepts : Accepts m own bytes r
+    accepts message = (λ e. accepted_from message (sym is ∙ e), λ a. is ∙ accepted_to message a)
+
+    pub refuses : Refuses m own bytes r
+    refuses s e = refused_from s (sym is ∙ e)

@@ -1,20 +1,21 @@
 -- What the decoder's step makes of a code, told by the part that the code and the bytes after it spell.
-use Rattle.std.proofs.Common.{◌≡◌, ℕ, ◌+◌, ◌-◌, ◌<◌, ◌≤◌, Bool, true, false, cond, ◌&&◌, eqb, leb, ◌⊎◌, List, [], ◌∷◌, ◌++◌, length, take, drop, Some, None, Ok, Err, Option, Result, sym, refl, ap, ◌∙◌, inl, inr, ⊎_elim, arith}
+use Rattle.std.proofs.Common.{◌≡◌, ◌==◌, ℕ, ◌+◌, ◌-◌, ◌<◌, ◌≤◌, Bool, true, false, cond, ◌&&◌, eqb, leb, ◌⊎◌, List, [], ◌∷◌, ◌++◌, length, take, drop, Some, None, Ok, Err, Option, Result, sym, refl, ap, ◌∙◌, inl, inr, ⊎_elim, arith}
 use Rattle.std.proofs.lemmas.List.{length-append, length-drop, length-take-le, take-append-le, drop-append-le, take-append-drop, take_at}
-use Rattle.std.proofs.lemmas.Bool.{eqb-true, ne_eqb, le-leb, lt-leb, leb-true, and_from, and_parts, cond-true, cond-false, cases_Bool, cases_eq, cases_lt}
+use Rattle.std.proofs.lemmas.Bool.{eqb-true, ne_eqb, le-leb, lt-leb, leb-true, and_from, and_parts, cond-true, cond-false, false_from_ne_true, cases_Bool, cases_eq, cases_lt}
+use Rattle.std.proofs.lemmas.Option.{none-some}
+use Rattle.std.specs.List.{find}
 use Rattle.message.specs.declared.command.Command.{Command}
 use Rattle.message.specs.declared.command.Command.TheVariants.{Read, Write, Verify, SetDeviceLock, DeleteDeviceLock, SetUnitLock, DeleteUnitLock}
 use Rattle.message.specs.declared.draft.Draft.{Draft}
 use Rattle.flex.specs.declared.status.Status.{Status}
 use Rattle.flex.specs.declared.status.Status.TheVariants.{IllegalOpcode, MessageSequence, MessageLength}
 use Rattle.flex.specs.declared.unit_map.UnitMap.{UnitMap}
-use Rattle.message.specs.Commands.{code_of, commands, command_among, command_at}
+use Rattle.message.specs.Commands.{code_of, commands, command_at}
 use Rattle.message.specs.Operands.{number, number_in, vector_of, vector_within}
 use Rattle.message.specs.Messages.{takes_unit, takes_address, takes_length, takes_command, with_unit, with_address, with_vector, with_length, with_command}
 use Rattle.message.specs.Decoding.{taking, place_read, vector_read, amount_read, command_read, command_set, step}
 use Rattle.message.specs.Arrangements.{single, by_vector, Part, no_op, set_unit, set_address, set_length, real, Opens, operand_size, Tells, Carries}
-use Rattle.flex.proofs.Cases.{absent, not_there}
-use Rattle.message.proofs.Cases.{refuted}
+use Rattle.flex.proofs.Cases.{absent}
 
 -- whether a draft takes a part
 abbrev pub takes : Draft → Part → Bool
@@ -53,8 +54,8 @@ step_command m d SetUnitLock rest = refl
 step_command m d DeleteUnitLock rest = refl
 
 -- a code that has a command is that command's
-command_code : (ks : List Command) (code : ℕ) (k : Command) → command_among ks code ≡ Some k → code ≡ code_of k
-command_code [] code k e = absurd (not_there e)
+command_code : (ks : List Command) (code : ℕ) (k : Command) → find (λ k. code == code_of k) ks ≡ Some k → code ≡ code_of k
+command_code [] code k e = absurd (none-some _ e)
 command_code (x ∷ ks) code k e =
     ⊎_elim
     (λ t. let p : Some x ≡ Some k = sym (cond-true _ (Some x) _ t) ∙ e in let q : x ≡ k = cc in eqb-true _ _ t ∙ ap code_of q)
@@ -116,13 +117,13 @@ pub step_unknown : (m : UnitMap) (d : Draft) (code : ℕ) (rest : List ℕ) → 
 step_unknown m d code rest none =
     let a : eqb code 0x34 ≡ false = ne_eqb code 0x34 (λ e. none no_op e) in
     let b : (leb 0x20 code && leb code 0x2f) ≡ false =
-    refuted _ (λ t.
+    false_from_ne_true _ (λ t.
     let p = and_parts (leb 0x20 code) _ t in
     let low : 0x20 ≤ code = leb-true _ _ p.0 in
     let high : code ≤ 0x2f = leb-true _ _ p.1 in
     none (set_unit (code - 0x20)) (omega arith, omega arith)) in
     let c : (leb 0x10 code && leb code 0x11) ≡ false =
-    refuted _ (λ t.
+    false_from_ne_true _ (λ t.
     let p = and_parts (leb 0x10 code) _ t in
     let low : 0x10 ≤ code = leb-true _ _ p.0 in
     let high : code ≤ 0x11 = leb-true _ _ p.1 in
@@ -157,7 +158,7 @@ module _ (code : ℕ) (rest : List ℕ) where
   unknown_code a b c d e f (set_address (by_vector v)) o = d o
   unknown_code a b c d e f (set_length n) o = e o
   unknown_code a b c d e f (real k) o =
-      not_there (sym f ∙ ap command_at o ∙ command_of k)
+      none-some _ (sym f ∙ ap command_at o ∙ command_of k)
 
   by_command : (code ≡ 0x34 → ⊥) → ((0x20 ≤ code) × (code < 0x30) → ⊥) → (code ≡ 0x10 → ⊥) → (code ≡ 0x11 → ⊥) → (code ≡ 0x18 → ⊥) → (o : Option Command) → command_at code ≡ o → Reading code rest
   by_command a b c d e (Some k) h = bare (real k) (command_code commands code k h) (record { size = refl; value = tt })

@@ -1,6 +1,6 @@
 -- One code of a message after another, over the list of its bytes.
-use Rattle.std.proofs.Common.{◌≡◌, ℕ, zero, suc, ◌+◌, ◌-◌, ◌<◌, ◌≤◌, Bool, true, false, cond, List, [], ◌∷◌, length, get_or, take, drop, Ok, Err, Result, sym, refl, ap, ◌∙◌, arith}
-use Rattle.std.proofs.lemmas.List.{at_drop_more, drop-drop, length-append, length-drop, take_rest}
+use Rattle.std.proofs.Common.{◌≡◌, ℕ, zero, suc, ◌-◌, ◌≤◌, Bool, true, false, cond, List, [], ◌∷◌, length, get_or, take, drop, Ok, Err, Result, sym, refl, ap, ◌∙◌, arith}
+use Rattle.std.proofs.lemmas.List.{length-append, take_rest}
 use Rattle.message.specs.declared.draft.Draft.{Draft}
 use Rattle.flex.specs.declared.status.Status.{Status}
 use Rattle.flex.specs.declared.status.Status.TheVariants.{IllegalOpcode, MessageSequence, MessageLength}
@@ -37,25 +37,23 @@ scan_skip m zero xs d = refl
 scan_skip m (suc n) [] d = refl
 scan_skip m (suc n) (x ∷ xs) d = scan_skip m n xs d
 
--- the scan from byte i on
-module _ (m : UnitMap) (message : List ℕ) (i : ℕ) (d : Draft) (h : i < length message) where
-  -- `&message[i + 1..]`, as the checker has it
-  scan_at : (r : Result (Draft × ℕ) Status) → r ≡ step m d (get_or message i 0) (take (length message - (i + 1)) (drop (i + 1) message)) → scan m (drop i message) 0 d ≡ elim r [ Ok p ↦ scan m (drop (i + 1) message) p.1 p.0 | Err s ↦ Err s ]
-  scan_at r e =
-      at_drop_more (λ (l : List ℕ). scan m l 0 d) message i 0 h
-      ∙ ap (λ (s : Result (Draft × ℕ) Status). elim s [ Ok p ↦ scan m (drop (i + 1) message) p.1 p.0 | Err x ↦ Err x ]) (ap (step m d (get_or message i 0)) (sym (take_rest message (i + 1))) ∙ sym e)
+-- what a step leads to
+abbrev pub goes_on : UnitMap → List ℕ → Result (Draft × ℕ) Status → Result Draft Status
+goes_on m rest r = elim r [ Ok p ↦ scan m rest p.1 p.0 | Err s ↦ Err s ]
 
-  pub scan_stops : (r : Result (Draft × ℕ) Status) (s : Status) → r ≡ step m d (get_or message i 0) (take (length message - (i + 1)) (drop (i + 1) message)) → r ≡ Err s → scan m (drop i message) 0 d ≡ Err s
-  scan_stops r s e x = scan_at r e ∙ ap (λ (z : Result (Draft × ℕ) Status). elim z [ Ok p ↦ scan m (drop (i + 1) message) p.1 p.0 | Err y ↦ Err y ]) x
+-- all but the first byte, as a pattern has them
+abbrev pub others : List ℕ → List ℕ
+others left = take (length left - 1) (drop 1 left)
 
-  pub scan_more : (r : Result (Draft × ℕ) Status) (d' : Draft) (n : ℕ) → r ≡ step m d (get_or message i 0) (take (length message - (i + 1)) (drop (i + 1) message)) → r ≡ Ok (d', n) → scan m (drop i message) 0 d ≡ scan m (drop (i + (1 + n)) message) 0 d'
-  scan_more r d' n e x =
-      let k : i + 1 + n ≡ i + (1 + n) = omega arith in
-      scan_at r e ∙ ap (λ (z : Result (Draft × ℕ) Status). elim z [ Ok p ↦ scan m (drop (i + 1) message) p.1 p.0 | Err y ↦ Err y ]) x
-      ∙ scan_skip m n (drop (i + 1) message) d' ∙ ap (λ (l : List ℕ). scan m l 0 d') (drop-drop n (i + 1) message ∙ ap (λ (j : ℕ). drop j message) k)
+-- the scan of what is left of a message
+module _ (m : UnitMap) (left : List ℕ) (d : Draft) (r : Result (Draft × ℕ) Status) (h : 1 ≤ length left) (is : r ≡ step m d (get_or left 0 0) (others left)) where
+  at_first : (bs : List ℕ) → 1 ≤ length bs → scan m bs 0 d ≡ goes_on m (others bs) (step m d (get_or bs 0 0) (others bs))
+  at_first [] l = absurd (omega arith)
+  at_first (b ∷ bs) l = rw take_rest
 
-  -- a code and what it takes end within the message
-  pub step_ends : (r : Result (Draft × ℕ) Status) (d' : Draft) (n : ℕ) → r ≡ step m d (get_or message i 0) (take (length message - (i + 1)) (drop (i + 1) message)) → r ≡ Ok (d', n) → i + (1 + n) ≤ length message
-  step_ends r d' n e x =
-      let w : n ≤ length (drop (i + 1) message) = step_within m d (get_or message i 0) (drop (i + 1) message) d' n (ap (step m d (get_or message i 0)) (sym (take_rest message (i + 1))) ∙ sym e ∙ x) in
-      omega (arith, length-drop (i + 1) message)
+  pub scan_more : (d' : Draft) (n : ℕ) → r ≡ Ok (d', n) → scan m left 0 d ≡ scan m (drop n (others left)) 0 d'
+  scan_more d' n e = at_first left h ∙ ap (goes_on m (others left)) (sym is ∙ e) ∙ scan_skip m n (others left) d'
+
+  -- what a code takes is left after it
+  pub step_ends : (d' : Draft) (n : ℕ) → r ≡ Ok (d', n) → n ≤ length (others left)
+  step_ends d' n e = step_within m d (get_or left 0 0) (others left) d' n (sym is ∙ e)

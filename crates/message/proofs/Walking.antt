@@ -10,6 +10,7 @@ use Rattle.flex.specs.declared.unit_map.UnitMap.{UnitMap}
 use Rattle.message.specs.Decoding.{taking, step, scan}
 use Rattle.message.specs.Arrangements.{Part, Opens, operand_size, Carries, Spells, Outline, Arranged, Bounded, Good, Fault, unknown, misplaced, short, AtFault}
 use Rattle.message.proofs.Arranging.{drafted, allowed_from, allowed_to, Reached, grow, at_fault}
+use Rattle.message.proofs.Scanning.{goes_on}
 use Rattle.message.proofs.Reading.{takes, given, step_part, step_short, step_unknown, whole, cut, nothing, reading}
 
 -- one part more at the end of the bytes
@@ -24,10 +25,6 @@ spells_push (p ∷ qs) bytes q code operand s o c =
 abbrev pub Outcome : UnitMap → Parameters → List ℕ → Result Draft Status → Type 0
 Outcome m own bytes (Ok d) = (o : Outline) × Good m own bytes o × (d ≡ drafted m own o)
 Outcome m own bytes (Err s) = AtFault m own bytes s
-
--- what a step leads to
-abbrev pub goes_on : UnitMap → List ℕ → Result (Draft × ℕ) Status → Result Draft Status
-goes_on m rest r = elim r [ Ok p ↦ scan m rest p.1 p.0 | Err s ↦ Err s ]
 
 -- from good codes on, n bytes into the rest
 abbrev Walks : UnitMap → Parameters → List ℕ → List ℕ → Type 0

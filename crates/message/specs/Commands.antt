@@ -1,5 +1,5 @@
 -- The real commands, which ask the device for something.
-use Rattle.std.specs.Prelude.{ℕ, Bool, true, false, cond, List, [], ◌∷◌, Some, None, Option, ◌==◌}
+use Rattle.std.specs.Prelude.{ℕ, Bool, true, false, List, [], ◌∷◌, find, Option, ◌==◌}
 use Rattle.message.specs.declared.command.Command.{Command}
 use Rattle.message.specs.declared.command.Command.TheVariants.{Read, Write, Verify, SetDeviceLock, DeleteDeviceLock, SetUnitLock, DeleteUnitLock}
 
@@ -16,13 +16,9 @@ code_of DeleteUnitLock = 0x7b
 abbrev pub commands : List Command
 commands = Read ∷ Write ∷ Verify ∷ SetDeviceLock ∷ DeleteDeviceLock ∷ SetUnitLock ∷ DeleteUnitLock ∷ []
 
-abbrev pub command_among : List Command → ℕ → Option Command
-command_among [] code = None
-command_among (k ∷ ks) code = cond (code == code_of k) (Some k) (command_among ks code)
-
 -- the command of a code; none where no command has it
 abbrev pub command_at : ℕ → Option Command
-command_at code = command_among commands code
+command_at code = find (λ k. code == code_of k) commands
 
 -- a command is on a unit if it moves or checks a unit's blocks, or sets or deletes a unit's lock
 abbrev pub is_on_unit : Command → Bool

@@ -41,14 +41,14 @@ effective d = unwrap_or d.unit d.own.unit
 
 -- Set Unit takes a unit of the map, or the controller; any other gives 1/2
 abbrev pub unit_seen : Draft → ℕ → Option Geometry → Result Draft Status
-unit_seen d number (Some g) = Ok (record { own = d.own; unit = Some number; address = d.address; length = d.length; command = d.command })
+unit_seen d number (Some g) = Ok (record d { unit = Some number })
 unit_seen d number None = Err ModuleAddressing
 
 abbrev pub with_unit : UnitMap → Draft → ℕ → Result Draft Status
 with_unit m d number = unit_seen d number (geometry_at m number)
 
 abbrev pub addressed : Draft → Option ℕ → Result Draft Status
-addressed d (Some address) = Ok (record { own = d.own; unit = d.unit; address = Some address; length = d.length; command = d.command })
+addressed d (Some address) = Ok (record d { address = Some address })
 addressed d None = Err AddressBounds
 
 -- Set Address takes an address below the size of the unit in effect; any other gives 1/3
@@ -71,11 +71,11 @@ with_vector m d v = addressed d (vector_in (geometry_at m (effective d)) v)
 abbrev pub with_length : Draft → ℕ → Result Draft Status
 with_length d n =
     cond (n % 256 == 0 || n == 0xffff_ffff)
-    (Ok (record { own = d.own; unit = d.unit; address = d.address; length = Some n; command = d.command }))
+    (Ok (record d { length = Some n }))
     (Err ParameterBounds)
 
 abbrev pub with_command : Draft → Command → Draft
-with_command d k = record { own = d.own; unit = d.unit; address = d.address; length = d.length; command = Some k }
+with_command d k = record d { command = Some k }
 
 -- The message of a draft: what it set, and for the rest the host's own parameters. The target address that it did not set is the host's
 -- own where the unit in effect is the host's own, and 0 where the message changed the unit.

@@ -1,14 +1,10 @@
 -- The bytes that follow a code: numbers, the most significant byte first.
-use Rattle.std.specs.Prelude.{ℕ, ◌+◌, ◌*◌, cond, List, [], ◌∷◌, length, take, drop, Some, None, Option, nat_le}
+use Rattle.std.specs.Prelude.{ℕ, ◌+◌, ◌*◌, cond, List, fold, length, take, drop, Some, None, Option, nat_le}
 use Rattle.flex.specs.declared.vector.Vector.{Vector}
-
-abbrev pub number_from : ℕ → List ℕ → ℕ
-number_from high [] = high
-number_from high (b ∷ bs) = number_from (256 * high + b) bs
 
 -- the number that bytes spell
 abbrev pub number : List ℕ → ℕ
-number bs = number_from 0 bs
+number bs = fold (λ high b. 256 * high + b) 0 bs
 
 -- the number of the first n bytes; none where there are fewer
 abbrev pub number_in : ℕ → List ℕ → Option ℕ

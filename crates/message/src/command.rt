@@ -1,5 +1,8 @@
-ghost use Rattle.std.specs.Prelude.{◌≡◌};
+ghost use Rattle.std.specs.Prelude.{◌≡◌, ok_or};
+ghost use Rattle.flex.specs.declared.status.Status.TheVariants.{IllegalOpcode};
 ghost use Rattle.message.specs.Commands.{command_at, is_on_unit};
+
+use flex::status::Status;
 
 /// A real command.
 #[derive(Clone, Copy, PartialEq, Eq, Debug)]
@@ -13,23 +16,27 @@ pub enum Command {
     DeleteUnitLock,
 }
 
-impl Command {
-    /// The command of a code, or none.
-    pub(super) fn from_code(code: u8) -> Option<Command>
-        ensures { result ≡ command_at code }
-    {
+/// The command of a code, or 1/1.
+impl TryFrom<u8> for Command {
+    type Error = Status;
+
+    ghost try_from_gives = { λ code r. r ≡ ok_or (command_at code) IllegalOpcode };
+
+    fn try_from(code: u8) -> Result<Command, Status> {
         match code {
-            0x00 => Some(Command::Read),
-            0x02 => Some(Command::Write),
-            0x04 => Some(Command::Verify),
-            0x63 => Some(Command::SetDeviceLock),
-            0x6b => Some(Command::DeleteDeviceLock),
-            0x73 => Some(Command::SetUnitLock),
-            0x7b => Some(Command::DeleteUnitLock),
-            _ => None,
+            0x00 => Ok(Command::Read),
+            0x02 => Ok(Command::Write),
+            0x04 => Ok(Command::Verify),
+            0x63 => Ok(Command::SetDeviceLock),
+            0x6b => Ok(Command::DeleteDeviceLock),
+            0x73 => Ok(Command::SetUnitLock),
+            0x7b => Ok(Command::DeleteUnitLock),
+            _ => Err(Status::IllegalOpcode),
         }
     }
+}
 
+impl Command {
     /// Whether the command is on a unit, which is then the one in effect.
     pub fn on_unit(self) -> bool
         ensures { result ≡ is_on_unit self }

@@ -5,7 +5,7 @@ ghost use Rattle.message.specs.Decoding.{amount_set, command_set, decoded, place
 use super::command::Command;
 use super::draft::Draft;
 use super::message::Message;
-use super::operand::{four, six, vector};
+use super::operand::{number, vector};
 use super::parameters::Parameters;
 use flex::status::Status;
 use flex::unit_map::UnitMap;
@@ -17,42 +17,38 @@ const LONGEST: usize = 1024;
 fn set_address(map: &UnitMap, draft: Draft, rest: &[u8]) -> Result<(Draft, usize), Status>
     ensures { result ≡ place_set map.now draft rest.now }
 {
-    match six(rest) {
-        Some(address) => Ok((draft.with_address(map, address)?, 6)),
-        None => Err(Status::MessageLength),
-    }
+    let address = number::<6>(rest).ok_or(Status::MessageLength)?;
+    Ok((draft.with_address(map, address)?, 6))
 }
 
 /// Set Address with a vector.
 fn set_vector(map: &UnitMap, draft: Draft, rest: &[u8]) -> Result<(Draft, usize), Status>
     ensures { result ≡ vector_set map.now draft rest.now }
 {
-    match vector(rest) {
-        Some(vector) => Ok((draft.with_vector(map, vector)?, 6)),
-        None => Err(Status::MessageLength),
-    }
+    let vector = vector(rest).ok_or(Status::MessageLength)?;
+    Ok((draft.with_vector(map, vector)?, 6))
 }
 
 fn set_length(draft: Draft, rest: &[u8]) -> Result<(Draft, usize), Status>
     ensures { result ≡ amount_set draft rest.now }
 {
-    match four(rest) {
-        Some(length) => Ok((draft.with_length(length)?, 4)),
-        None => Err(Status::MessageLength),
-    }
+    let length = number::<4>(rest).ok_or(Status::MessageLength)?;
+    Ok((draft.with_length(length as u32)?, 4))
 }
 
 fn set_command(draft: Draft, code: u8) -> Result<(Draft, usize), Status>
     ensures { result ≡ command_set draft code }
 {
-    match Command::from_code(code) {
-        Some(_) if !draft.takes_command() => Err(Status::MessageSequence),
-        Some(command) => Ok((draft.with_command(command), 0)),
-        None => Err(Status::IllegalOpcode),
+    let command = Command::try_from(code)?;
+    if !draft.takes_command() {
+        return Err(Status::MessageSequence);
     }
+    Ok((draft.with_command(command), 0))
 }
 
 /// What a code makes of a draft, and how many of the bytes after it it takes.
+// A count and not the bytes that are left: those are no plainer, since each function that reads operands would name a
+// lifetime, and each of their contracts would have to say what is dropped.
 fn step(map: &UnitMap, draft: Draft, code: u8, rest: &[u8]) -> Result<(Draft, usize), Status>
     ensures { result ≡ step map.now draft code rest.now }
 {
@@ -78,11 +74,11 @@ fn step(map: &UnitMap, draft: Draft, code: u8, rest: &[u8]) -> Result<(Draft, us
 fn scan(map: &UnitMap, mut draft: Draft, message: &[u8]) -> Result<Draft, Status>
     ensures { result ≡ scan map.now message.now 0 draft }
 {
-    let mut i = 0;
-    while i < message.len() {
-        let (next, taken) = step(map, draft, message[i], &message[i + 1..])?;
+    let mut left = message;
+    while let [code, rest @ ..] = left {
+        let (next, taken) = step(map, draft, *code, rest)?;
         draft = next;
-        i += 1 + taken;
+        left = &rest[taken..];
     }
     Ok(draft)
 }

@@ -1,9 +1,12 @@
-ghost use Rattle.std.specs.Prelude.{◌≡◌};
+ghost use Rattle.std.specs.Prelude.{◌≡◌, ok_or};
+ghost use Rattle.flex.specs.Maps.{geometry_at};
+ghost use Rattle.flex.specs.declared.status.Status.TheVariants.{AddressBounds};
 ghost use Rattle.message.specs.Messages.{effective, finished, starting, takes_address, takes_command, takes_length, takes_unit, with_address, with_command, with_length, with_unit, with_vector};
 
 use super::command::Command;
 use super::message::Message;
 use super::parameters::{Parameters, WHOLE_UNIT};
+use flex::geometry::Geometry;
 use flex::status::Status;
 use flex::unit_map::UnitMap;
 use flex::vector::Vector;
@@ -12,6 +15,8 @@ use flex::vector::Vector;
 const BLOCK: u32 = 256;
 
 /// What a message has said so far, and the parameters of the host that sends it.
+// The unit map is passed beside a draft; kept in it, it would be no plainer: the definitions speak of a draft as a value
+// of its own, which any map may be held against.
 #[derive(Clone, Copy)]
 pub(super) struct Draft {
     pub(super) own: Parameters,
@@ -72,41 +77,43 @@ impl Draft {
     pub(super) fn with_unit(self, map: &UnitMap, number: u8) -> Result<Draft, Status>
         ensures { result ≡ with_unit map.now self number }
     {
-        match map.geometry(number) {
-            Some(_) => Ok(Draft {
-                unit: Some(number),
-                ..self
-            }),
-            None => Err(Status::ModuleAddressing),
-        }
+        map.geometry(number).ok_or(Status::ModuleAddressing)?;
+        Ok(Draft {
+            unit: Some(number),
+            ..self
+        })
+    }
+
+    /// The geometry of the unit in effect.
+    fn geometry(self, map: &UnitMap) -> Result<Geometry, Status>
+        ensures { result ≡ ok_or (geometry_at map.now (effective self)) AddressBounds }
+    {
+        map.geometry(self.effective()).ok_or(Status::AddressBounds)
     }
 
     /// With a single address, of six bytes.
     pub(super) fn with_address(self, map: &UnitMap, address: u64) -> Result<Draft, Status>
         ensures { result ≡ with_address map.now self address }
     {
-        match map.geometry(self.effective()) {
-            Some(geometry) if address < u64::from(geometry.size()) => Ok(Draft {
-                address: Some(address as u32),
-                ..self
-            }),
-            _ => Err(Status::AddressBounds),
+        let geometry = self.geometry(map)?;
+        if address >= u64::from(geometry.size()) {
+            return Err(Status::AddressBounds);
         }
+        Ok(Draft {
+            address: Some(address as u32),
+            ..self
+        })
     }
 
     pub(super) fn with_vector(self, map: &UnitMap, vector: Vector) -> Result<Draft, Status>
         ensures { result ≡ with_vector map.now self vector }
     {
-        let Some(geometry) = map.geometry(self.effective()) else {
-            return Err(Status::AddressBounds);
-        };
-        match geometry.address_at(vector) {
-            Some(address) => Ok(Draft {
-                address: Some(address),
-                ..self
-            }),
-            None => Err(Status::AddressBounds),
-        }
+        let geometry = self.geometry(map)?;
+        let address = geometry.address_at(vector).ok_or(Status::AddressBounds)?;
+        Ok(Draft {
+            address: Some(address),
+            ..self
+        })
     }
 
     pub(super) fn with_length(self, length: u32) -> Result<Draft, Status>

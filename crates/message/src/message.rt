@@ -1,5 +1,5 @@
-use super::command::*;
-use super::parameters::*;
+use super::command::Command;
+use super::parameters::Parameters;
 
 /// What a command message asks for.
 #[derive(Clone, Copy, PartialEq, Eq, Debug)]

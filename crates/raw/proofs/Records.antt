@@ -1,12 +1,12 @@
 -- Which record a block has: one of its own, in order, never the spare one of its track.
-use Rattle.std.proofs.Common.{◌≡◌, ℕ, zero, suc, ◌+◌, ◌-◌, ◌*◌, ◌/◌, ◌%◌, ◌<◌, ◌≤◌, true, cond, List, [], ◌∷◌, length, get_or, is_some, Some, None, sym, ap, ◌∙◌, subst, inl, inr, add-mul, arith}
-use Rattle.std.proofs.lemmas.Nat.{div-add-mod', div_below, div-mul-add, mod_below, mod-mul-add, mul-le}
-use Rattle.std.proofs.lemmas.Bool.{cases_lt, cases_order, lt-ltb, le-ltb}
+use Rattle.std.proofs.Common.{◌≡◌, ℕ, ◌+◌, ◌-◌, ◌*◌, ◌/◌, ◌%◌, ◌<◌, ◌≤◌, true, cond, List, length, get_or, leb, is_some, Some, None, sym, ap, ◌∙◌, inl, inr, add-mul, arith}
+use Rattle.std.proofs.lemmas.Nat.{div-add-mod', div-mul-add, mod_below, mod-mul-add, mul-le}
+use Rattle.std.proofs.lemmas.Bool.{cases_lt, cases_order, lt-ltb, le-ltb, leb-true, leb-false}
+use Rattle.std.specs.List.{position_or_len}
+use Rattle.std.proofs.lemmas.List.Sums.{fails_before_first}
+use Rattle.std.proofs.lemmas.List.Quantifiers.{position-Some}
 use Rattle.std.proofs.lemmas.Bool.Decides.{nat_tests}
-use Rattle.raw.specs.Raw.{place_of, raw_record, raw_count, raw_size, misplaced, misplaced_from, raw_refusal, spare_refusal, FirstMisplaced, Layout}
-
-pub a_block_a_track : (tracks records : ℕ) → 2 ≤ records → tracks ≤ tracks * (records - 1)
-a_block_a_track tracks records h = omega (arith, mul-le tracks 1 tracks (records - 1) (omega arith) (omega arith))
+use Rattle.raw.specs.Raw.{place_of, raw_record, raw_count, raw_size, misplaced, FirstMisplaced, Layout}
 
 -- places within one track
 place_below : (s i r : ℕ) → i < r - 1 → place_of s i < r
@@ -28,18 +28,6 @@ place_onto s p r hs hp ne = elim (cases_lt p s) [
 module _ (n t r b : ℕ) (h : b < raw_size n t r) where
   pub records_two : 2 ≤ r
   records_two = grind (arith, nat_tests)
-
-  pub records_few : r ≤ 256
-  records_few = grind (arith, nat_tests)
-
-  pub size_is : raw_size n t r ≡ t * (r - 1)
-  size_is = grind (arith, nat_tests)
-
-  pub few_blocks : b < 4194304
-  few_blocks = grind (arith, nat_tests)
-
-  pub track_there : b / (r - 1) < t
-  track_there = div_below b (r - 1) t (omega (arith, records_two)) (omega (arith, size_is))
 
 module _ (spares : List ℕ) (r : ℕ) (two : 2 ≤ r) where
   abbrev record_of : ℕ → ℕ
@@ -93,46 +81,18 @@ module _ (spares : List ℕ) (r : ℕ) (two : 2 ≤ r) where
       )
 
 -- spare places in order: the first that is not in its track, or none
-placed_from : (r t : ℕ) (spares : List ℕ) → misplaced_from r t spares ≡ None → (i : ℕ) → i < length spares → get_or spares i 0 < r
-placed_from r t [] e i h = absurd (omega arith)
-placed_from r t (s ∷ ss) e i h = elim (cases_lt s r) [
-  | inl l ↦ at i h l (placed_from r (t + 1) ss (rw (lt-ltb s r l) at e))
-  | inr l ↦ let f = rw (le-ltb s r l) at e in absurd (let z : ◌≡◌ {A = ℕ} 0 1 = cc in omega arith)
-]
-  where
-    at : (i : ℕ) → i < length (s ∷ ss) → s < r → ((i : ℕ) → i < length ss → get_or ss i 0 < r) → get_or (s ∷ ss) i 0 < r
-    at zero h l rest = l
-    at (suc i) h l rest = rest i (omega arith)
-
 pub all_placed : (r : ℕ) (spares : List ℕ) → misplaced r spares ≡ None → (i : ℕ) → i < length spares → get_or spares i 0 < r
-all_placed r spares e = placed_from r 0 spares e
-
-first_from : (r t k : ℕ) (spares : List ℕ) → misplaced_from r t spares ≡ Some k → (j : ℕ) × (k ≡ t + j) × FirstMisplaced spares r j
-first_from r t k [] e = absurd (let z : ◌≡◌ {A = ℕ} 0 1 = cc in omega arith)
-first_from r t k (s ∷ ss) e = elim (cases_lt s r) [
-  | inl l ↦ more l (first_from r (t + 1) k ss (rw (lt-ltb s r l) at e))
-  | inr l ↦ (0, here l, record { is_track = omega arith; outside = l; earlier = λ i h. absurd (omega arith) })
-]
-  where
-    here : r ≤ s → k ≡ t + 0
-    here l = let f : Some t ≡ Some k = rw (le-ltb s r l) at e in let g : t ≡ k = cc in omega arith
-
-    more : s < r → (j : ℕ) × (k ≡ t + 1 + j) × FirstMisplaced ss r j → (j : ℕ) × (k ≡ t + j) × FirstMisplaced (s ∷ ss) r j
-    more l f = (suc f.0, omega (arith, f.1), record { is_track = omega (arith, f.2.is_track); outside = f.2.outside; earlier = before })
-      where
-        before : (i : ℕ) → i < suc f.0 → get_or (s ∷ ss) i 0 < r
-        before zero h = l
-        before (suc i) h = f.2.earlier i (omega arith)
+all_placed r spares e i h =
+    let before = elim (cases_lt (position_or_len (leb r) spares) (length spares)) as (λ _. i < position_or_len (leb r) spares) [
+      | inl l ↦ let f : Some (position_or_len (leb r) spares) ≡ None = rw (lt-ltb (position_or_len (leb r) spares) (length spares) l) at e in cc
+      | inr l ↦ omega arith
+    ] in
+    leb-false r (get_or spares i 0) (fails_before_first (leb r) spares i 0 before)
 
 pub first_misplaced : (r k : ℕ) (spares : List ℕ) → misplaced r spares ≡ Some k → FirstMisplaced spares r k
-first_misplaced r k spares e = let f = first_from r 0 k spares e in let g : k ≡ f.0 = omega (arith, f.1) in subst (FirstMisplaced spares r) (sym g) f.2
-
--- lengths that fit have few enough tracks
-pub few_tracks : (n t r : ℕ) → is_some (raw_count n t r) ≡ true → t ≤ 4194304
-few_tracks n t r e = let m = a_block_a_track t r in grind (arith, nat_tests)
-
-pub past_lengths : (n : ℕ) (spares : List ℕ) (r : ℕ) → is_some (raw_count n (length spares) r) ≡ true → raw_refusal n spares r ≡ spare_refusal (misplaced r spares)
-past_lengths n spares r e = grind (arith, nat_tests)
+first_misplaced r k spares e =
+    let f = position-Some (leb r) spares k 0 e in
+    record { is_track = f.0; outside = leb-true r (get_or spares k 0) f.1; earlier = λ i h. leb-false r (get_or spares i 0) (f.2 i h) }
 
 pub laid_out : (n : ℕ) (spares : List ℕ) (r : ℕ) → is_some (raw_count n (length spares) r) ≡ true → misplaced r spares ≡ None → Layout spares r (raw_size n (length spares) r)
 laid_out n spares r some none = record {

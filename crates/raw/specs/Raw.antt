@@ -1,5 +1,5 @@
 -- What a raw image means: memory of whole records in tracks, and one byte a track that tells its spare record.
-use Rattle.std.specs.Prelude.{◌≡◌, ℕ, ◌+◌, ◌-◌, ◌*◌, ◌/◌, ◌%◌, ◌<◌, ◌≤◌, Bool, cond, not, ◌&&◌, List, [], ◌∷◌, length, Some, None, Option, ◌==◌, ◌≢◌, nat_le, nat_lt, slice_index, slice_index_or, slice_set}
+use Rattle.std.specs.Prelude.{◌≡◌, ℕ, ◌+◌, ◌-◌, ◌*◌, ◌/◌, ◌%◌, ◌<◌, ◌≤◌, Bool, cond, not, ◌&&◌, List, length, Some, None, Option, ◌==◌, ◌≢◌, nat_le, nat_lt, position, slice_index, slice_index_or, slice_set}
 use Rattle.std.specs.Option.{unwrap_or}
 use Rattle.store.specs.declared.fault.Protection.{Protection}
 use Rattle.store.specs.Blocks.{Block}
@@ -49,13 +49,9 @@ with_data bytes record_number new = laid (slice_set bytes (276 * record_number) 
 abbrev pub with_flag : List ℕ → ℕ → List ℕ
 with_flag bytes record_number = slice_set bytes (276 * record_number) 1
 
--- The first track, counted from t, whose spare place is not in the track.
-abbrev pub misplaced_from : ℕ → ℕ → List ℕ → Option ℕ
-misplaced_from records t [] = None
-misplaced_from records t (spare ∷ spares) = cond (nat_lt spare records) (misplaced_from records (t + 1) spares) (Some t)
-
+-- The first track whose spare place is not in the track.
 abbrev pub misplaced : ℕ → List ℕ → Option ℕ
-misplaced records spares = misplaced_from records 0 spares
+misplaced records spares = position (nat_le records) spares
 
 abbrev pub spare_refusal : Option ℕ → Option Refusal
 spare_refusal None = None

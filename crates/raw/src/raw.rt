@@ -2,21 +2,19 @@ ghost use Rattle.std.specs.Prelude.{◌≡◌, ◌+◌, ◌*◌, ◌<◌, ◌≤
 ghost use Rattle.std.specs.Result.{result_err};
 ghost use Rattle.store.specs.Blocks.{read_answer, read_buffer, write_answer, written};
 ghost use Rattle.image.specs.Images.{if_accepted, harmed};
-ghost use Rattle.raw.specs.Raw.{raw_count, raw_size, raw_meaning, image_record, raw_refusal, raw_offered, with_data, with_flag, SameRaw, Layout, SpareTold, RecordWritten};
+ghost use Rattle.raw.specs.Raw.{records_fit, raw_count, raw_size, raw_meaning, image_record, raw_refusal, raw_offered, with_data, with_flag, SameRaw, Layout, SpareTold, RecordWritten};
 ghost use Rattle.raw.specs.Lawful.{raw_lawful};
 
 use super::tracks::{HEADER_BYTES, RECORD_BYTES, first_misplaced, record_start};
-use image::check::ask;
+use image::check::{BLOCK_LIMIT, ask};
 use image::refusal::Refusal;
 use store::fault::{BLOCK_BYTES, FaultKind, Protection, StoreFault};
 use store::store::Store;
 
-/// The most blocks that an image has.
-const BLOCK_LIMIT: usize = 4_194_304;
-
-/// The least and the most records of a track.
+/// The least records of a track.
 const RECORDS_LEAST: u32 = 2;
 
+/// The most records of a track.
 const RECORDS_MOST: u32 = 256;
 
 /// What header byte 0 of a record is set to: any other number than SOUND says damaged too.
@@ -25,6 +23,7 @@ const SOUND: u8 = 0;
 const DAMAGED: u8 = 1;
 
 /// Lent memory of 276-byte records in tracks, and one lent byte a track that is the place of its spare record.
+// A type of its own: see `FlatImage`.
 #[derive(Drop)]
 pub struct RawImage<'a> {
     bytes: &'a mut [u8],
@@ -33,21 +32,25 @@ pub struct RawImage<'a> {
     protection: Protection,
 }
 
+/// Whether a track may have so many records.
+fn records_fit(records: u32) -> bool
+    ensures { result ≡ records_fit records }
+{
+    (RECORDS_LEAST..=RECORDS_MOST).contains(&records)
+}
+
 /// How many blocks memory of this length has in so many tracks of so many records, if they fit.
 pub fn raw_count(bytes: usize, tracks: usize, records: u32) -> Option<u32>
     ensures { result ≡ raw_count bytes tracks records }
 {
     // each track has a block, so more tracks are too many, and no product below overflows
-    if records < RECORDS_LEAST || records > RECORDS_MOST || tracks > BLOCK_LIMIT {
+    if !records_fit(records) || tracks > BLOCK_LIMIT {
         return None;
     }
     let records = records as usize;
     let blocks = tracks * (records - 1);
-    if bytes == RECORD_BYTES * (records * tracks) && blocks <= BLOCK_LIMIT {
-        Some(blocks as u32)
-    } else {
-        None
-    }
+    let fits = bytes == RECORD_BYTES * (records * tracks) && blocks <= BLOCK_LIMIT;
+    fits.then(|| blocks as u32)
 }
 
 impl<'a> RawImage<'a> {
@@ -64,12 +67,10 @@ impl<'a> RawImage<'a> {
         ensures blocks { MatchResult result (λ image. raw_meaning image ≡ raw_offered bytes.old spares.now records protection) (λ _. raw_offered bytes.old spares.now records protection ≡ []) }
         ensures law { MatchResult result (λ image. Layout spares.now records (length (raw_meaning image))) (SpareTold spares.now records) }
     {
-        if records < RECORDS_LEAST || records > RECORDS_MOST {
+        if !records_fit(records) {
             return Err(Refusal::Records);
         }
-        if raw_count(bytes.len(), spares.len(), records).is_none() {
-            return Err(Refusal::Lengths);
-        }
+        raw_count(bytes.len(), spares.len(), records).ok_or(Refusal::Lengths)?;
         match first_misplaced(spares, records) {
             Some(track) => Err(Refusal::Spare { track }),
             None => Ok(RawImage {
@@ -132,10 +133,7 @@ impl<'a> RawImage<'a> {
         let number = ask(buffer.len(), block, self.count())?;
         let at = self.start(number);
         if self.bytes[at] != SOUND {
-            return Err(StoreFault {
-                kind: FaultKind::Damaged,
-                block,
-            });
+            return Err(FaultKind::Damaged.at(block));
         }
         let from = at + HEADER_BYTES;
         buffer.copy_from_slice(&self.bytes[from..from + BLOCK_BYTES]);
@@ -175,12 +173,7 @@ impl Store for RawImage<'_> {
         ensures law { result ≡ Ok tt → RecordWritten self.old.bytes.now (image_record self.old block) bytes.now self.new.bytes.now }
     {
         let number = ask(bytes.len(), block, self.count())?;
-        if let Protection::Protected = self.protection {
-            return Err(StoreFault {
-                kind: FaultKind::Protected,
-                block,
-            });
-        }
+        self.protection.permit(block)?;
         let at = self.start(number);
         self.bytes[at] = SOUND;
         let from = at + HEADER_BYTES;
@@ -190,10 +183,7 @@ impl Store for RawImage<'_> {
 
     fn protection(&self, block: u32) -> Result<Protection, StoreFault> {
         if block >= self.count() {
-            return Err(StoreFault {
-                kind: FaultKind::Beyond,
-                block,
-            });
+            return Err(FaultKind::Beyond.at(block));
         }
         Ok(self.protection)
     }

@@ -7,15 +7,21 @@ pub(super) const RECORD_BYTES: usize = 276;
 /// The bytes of a record's header, before the data.
 pub(super) const HEADER_BYTES: usize = 6;
 
+// The spare places and the records of a track go together, as fields of the image: a type of the two would be made for
+// each of these calls, and be no plainer.
+
 /// The byte at which the record of a block begins.
 pub(super) fn record_start(spares: &[u8], records: usize, block: usize) -> usize
-    requires { (2 ≤ records) × ((records ≤ 256) × ((block < 4294967296) × (block / (records - 1) < length spares.now))) }
+    requires least { 2 ≤ records }
+    requires most { records ≤ 256 }
+    requires number { block < 4294967296 }
+    requires track { block / (records - 1) < length spares.now }
     ensures { result ≡ 276 * raw_record spares.now records block }
 {
     let blocks = records - 1;
     let track = block / blocks;
     let nth = block % blocks;
-    let place = if nth < spares[track] as usize {
+    let place = if nth < usize::from(spares[track]) {
         nth
     } else {
         nth + 1
@@ -28,10 +34,8 @@ pub(super) fn first_misplaced(spares: &[u8], records: u32) -> Option<u32>
     requires { length spares.now < 4294967296 }
     ensures { result ≡ misplaced records spares.now }
 {
-    for (track, place) in spares.iter().enumerate() {
-        if u32::from(*place) >= records {
-            return Some(track as u32);
-        }
-    }
-    None
+    let track = spares
+        .iter()
+        .position(|place| u32::from(*place) >= records)?;
+    Some(track as u32)
 }

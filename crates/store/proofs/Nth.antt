@@ -1,12 +1,12 @@
 -- Lists by what stands at each place.
-use Rattle.std.proofs.Common.{◌≡◌, ℕ, zero, suc, List, [], ◌∷◌, set, Some, None, refl, ap, ◌∙◌, arith}
+use Rattle.std.proofs.Common.{◌≡◌, ℕ, zero, suc, List, [], ◌∷◌, set, Some, None, refl, ap, ◌∙◌}
 use Rattle.std.specs.List.{slice_get}
 use Rattle.std.specs.Option.{option_map}
 
 pub same_nth : {X : Type 0} (xs ys : List X) → ((i : ℕ) → slice_get xs i ≡ slice_get ys i) → xs ≡ ys
 same_nth [] [] h = refl
-same_nth [] (y ∷ ys) h = let e : None ≡ Some y = h 0 in absurd (let z : ◌≡◌ {A = ℕ} 0 1 = cc in omega arith)
-same_nth (x ∷ xs) [] h = let e : Some x ≡ None = h 0 in absurd (let z : ◌≡◌ {A = ℕ} 0 1 = cc in omega arith)
+same_nth [] (y ∷ ys) h = let e : None ≡ Some y = h 0 in cc
+same_nth (x ∷ xs) [] h = let e : Some x ≡ None = h 0 in cc
 same_nth (x ∷ xs) (y ∷ ys) h =
     let e : Some x ≡ Some y = h 0 in
     let f : x ≡ y = cc in

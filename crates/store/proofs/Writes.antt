@@ -1,5 +1,5 @@
 -- What a write leaves at each block, and so what every reader gets after it.
-use Rattle.std.proofs.Common.{◌≡◌, ℕ, Bool, true, false, cond, eqb, List, length, Some, None, Ok, Err, Option, sym, refl, ap, ◌∙◌, inl, inr, arith}
+use Rattle.std.proofs.Common.{◌≡◌, ℕ, Bool, true, false, cond, eqb, List, length, Some, None, Ok, Err, Option, sym, refl, ap, ◌∙◌, inl, inr}
 use Rattle.std.specs.List.{slice_get}
 use Rattle.std.specs.Option.{option_map}
 use Rattle.std.proofs.lemmas.List.{length-set}
@@ -54,6 +54,11 @@ module _ (bs : List Block) (b : ℕ) (bytes : List ℕ) where
       whole None e = none e
       whole (Some k) e = of k k.protection e
 
+-- a write of a whole block is taken only where the block is open
+pub permitted : (b : ℕ) (p : Protection) → write_of b p ≡ Ok tt → p ≡ protections.Open
+permitted b protections.Open e = refl
+permitted b protections.Protected e = cc
+
 pub protection_taken : (bytes : List ℕ) (k : Block) (p : Protection) → k.protection ≡ p → (taken_of bytes k p).protection ≡ k.protection
 protection_taken bytes k protections.Open e = elim (cases_Bool (eqb (length bytes) 256)) [ inl t ↦ rw t (sym e) | inr t ↦ rw t refl ]
 protection_taken bytes k protections.Protected e = refl
@@ -72,15 +77,11 @@ module _ (bs : List Block) (b : ℕ) (bytes : List ℕ) where
 
   -- an answer tells how long the bytes are and what stood at the block
   accepted : write_answer bs b bytes ≡ Ok tt → (length bytes ≡ 256) × ((k : Block) × (slice_get bs b ≡ Some k) × (k.protection ≡ protections.Open))
-  accepted a = elim (cases_Bool (eqb (length bytes) 256)) [ inl t ↦ (eqb-true (length bytes) 256 t, at (slice_get bs b) refl (rw t at a)) | inr t ↦ let f = rw t at a in absurd (let z : ◌≡◌ {A = ℕ} 0 1 = cc in omega arith) ]
+  accepted a = elim (cases_Bool (eqb (length bytes) 256)) [ inl t ↦ (eqb-true (length bytes) 256 t, at (slice_get bs b) refl (rw t at a)) | inr t ↦ let f = rw t at a in cc ]
     where
-      of : (p : Protection) → write_of b p ≡ Ok tt → p ≡ protections.Open
-      of protections.Open e = refl
-      of protections.Protected e = absurd (let z : ◌≡◌ {A = ℕ} 0 1 = cc in omega arith)
-
       at : (o : Option Block) → slice_get bs b ≡ o → write_at b o ≡ Ok tt → (k : Block) × (slice_get bs b ≡ Some k) × (k.protection ≡ protections.Open)
-      at None e f = absurd (let z : ◌≡◌ {A = ℕ} 0 1 = cc in omega arith)
-      at (Some k) e f = (k, e, of k.protection f)
+      at None e f = cc
+      at (Some k) e f = (k, e, permitted b k.protection f)
 
   read_back : write_answer bs b bytes ≡ Ok tt → Gives (written bs b bytes) b bytes
   read_back a buffer whole =
@@ -95,7 +96,7 @@ module _ (bs : List Block) (b : ℕ) (bytes : List ℕ) where
   refused_same f a = elim (cases_Bool (eqb (length bytes) 256)) [ inl t ↦ rw t (at (slice_get bs b) (rw t at a)) | inr t ↦ rw t refl ]
     where
       of : (p : Protection) → write_of b p ≡ Err f → written_of bs b bytes p ≡ bs
-      of protections.Open e = absurd (let z : ◌≡◌ {A = ℕ} 0 1 = cc in omega arith)
+      of protections.Open e = cc
       of protections.Protected e = refl
 
       at : (o : Option Block) → write_at b o ≡ Err f → written_at bs b bytes o ≡ bs

@@ -20,10 +20,8 @@ pub fn fetch_block<S: Store>(store: &mut S, block: u32) -> Result<[u8; BLOCK_BYT
     ensures same { S.Store.blocks store.new ≡ S.Store.blocks store.old }
 {
     let mut bytes = [0u8; BLOCK_BYTES];
-    match store.read(block, &mut bytes) {
-        Ok(()) => Ok(bytes),
-        Err(fault) => Err(fault),
-    }
+    store.read(block, &mut bytes)?;
+    Ok(bytes)
 }
 
 /// Settles a store, so that the memory at its bottom holds what the store means.

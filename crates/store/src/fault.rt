@@ -1,4 +1,5 @@
-ghost use Rattle.std.specs.Prelude.{Some};
+ghost use Rattle.std.specs.Prelude.{◌≡◌, Some};
+ghost use Rattle.store.specs.Blocks.{fault, write_of};
 ghost use Rattle.store.specs.Faults.{kind_word};
 
 use std::fmt;
@@ -11,6 +12,18 @@ pub const BLOCK_BYTES: usize = 256;
 pub enum Protection {
     Open,
     Protected,
+}
+
+impl Protection {
+    /// Whether a block with this protection may be written: `Ok`, or the refusal.
+    pub fn permit(self, block: u32) -> Result<(), StoreFault>
+        ensures { result ≡ write_of block self }
+    {
+        match self {
+            Protection::Open => Ok(()),
+            Protection::Protected => Err(FaultKind::Protected.at(block)),
+        }
+    }
 }
 
 /// Why a store refused a call.
@@ -31,6 +44,15 @@ pub enum FaultKind {
 pub struct StoreFault {
     pub kind: FaultKind,
     pub block: u32,
+}
+
+impl FaultKind {
+    /// The refusal of this kind at a block.
+    pub fn at(self, block: u32) -> StoreFault
+        ensures { result ≡ fault self block }
+    {
+        StoreFault { kind: self, block }
+    }
 }
 
 impl fmt::Display for FaultKind {

@@ -2,28 +2,20 @@ use super::common::*;
 use cache::cache::Cache;
 use flat::flat::FlatImage;
 use layer::guard::WriteGuard;
+use layer::run::Run;
 use std::test::Fail;
 use store::fault::{FaultKind, Protection};
 use store::store::Store;
 
 /// A cache may not be let go, so what is asked of one is worked out first and checked once it is released.
 fn keeps_all<S: Store>(cache: &Cache<S>, first: u32, last: u32) -> bool {
-    for block in first..last {
-        if !cache.keeps(block) {
-            return false;
-        }
-    }
-    true
+    (first..last).all(|block| cache.keeps(block))
 }
 
 /// Eight blocks are kept and nothing is below; the ninth makes one give way, and only that one is written.
 fn ninth_gives_way(cache: &mut Cache<FlatImage<'_>>) -> bool {
-    for block in 0..8u32 {
-        if !writes(cache, block, 5) {
-            return false;
-        }
-    }
-    let eight = keeps_all(cache, 0, 8)
+    let eight = (0..8u32).all(|block| writes(cache, block, 5))
+        && keeps_all(cache, 0, 8)
         && has(cache.below().bytes(), 0, 1)
         && has(cache.below().bytes(), 2047, 1);
     let again = writes(cache, 7, 6)
@@ -95,7 +87,7 @@ fn what_is_kept(rt: HostRuntime) -> Result<(), Fail> {
     let Ok(image) = FlatImage::open(&mut bytes, &mut damage, Protection::Open) else {
         return Err(Fail::new("refused"));
     };
-    let mut cache = Cache::new(WriteGuard::new(image, 0, 1));
+    let mut cache = Cache::new(WriteGuard::new(image, Run { first: 0, count: 1 }));
     let done = keeps_open_ones(&mut cache);
     let mut guard = cache.release();
     assert!(rt; done && reads(&mut guard, 1, 4) && is_protected(&guard, 0));

@@ -52,10 +52,7 @@ fn a_write_changes_its_bytes_and_its_bit(rt: HostRuntime) -> Result<(), Fail> {
 
 /// Why an image on such memory is refused.
 fn refusal(bytes: &mut [u8], damage: &mut [u8]) -> Option<Refusal> {
-    match FlatImage::open(bytes, damage, Protection::Open) {
-        Ok(_) => None,
-        Err(refusal) => Some(refusal),
-    }
+    FlatImage::open(bytes, damage, Protection::Open).err()
 }
 
 #[test]

@@ -1,6 +1,7 @@
 use super::common::*;
 use flat::flat::FlatImage;
 use layer::guard::WriteGuard;
+use layer::run::Run;
 use layer::window::Window;
 use std::test::Fail;
 use store::fault::{FaultKind, Protection};
@@ -13,7 +14,7 @@ fn a_window_renumbers_and_is_cut(rt: HostRuntime) -> Result<(), Fail> {
     let Ok(image) = FlatImage::open(&mut bytes, &mut damage, Protection::Open) else {
         return Err(Fail::new("refused"));
     };
-    let mut window = Window::new(image, 2, 9);
+    let mut window = Window::new(image, Run { first: 2, count: 9 });
     assert_eq!(rt; window.size(), 3);
     assert!(rt; read_refused(&mut window, 0, 256, FaultKind::Damaged));
     assert!(rt; read_refused(&mut window, 3, 256, FaultKind::Beyond));
@@ -24,7 +25,7 @@ fn a_window_renumbers_and_is_cut(rt: HostRuntime) -> Result<(), Fail> {
     assert_eq!(rt; window.below().size(), 5);
     let mut image = window.release();
     assert!(rt; reads(&mut image, 3, 8) && reads(&mut image, 1, 1) && reads(&mut image, 4, 1));
-    let mut past = Window::new(image, 5, 3);
+    let mut past = Window::new(image, Run { first: 5, count: 3 });
     assert_eq!(rt; past.size(), 0);
     assert!(rt; write_refused(&mut past, 0, FaultKind::Beyond));
     Ok(())
@@ -37,7 +38,13 @@ fn a_guard_protects_one_run_besides(rt: HostRuntime) -> Result<(), Fail> {
     let Ok(image) = FlatImage::open(&mut bytes, &mut damage, Protection::Open) else {
         return Err(Fail::new("refused"));
     };
-    let mut guard = WriteGuard::new(image, 3, 4_000_000_000);
+    let mut guard = WriteGuard::new(
+        image,
+        Run {
+            first: 3,
+            count: 4_000_000_000,
+        },
+    );
     assert_eq!(rt; guard.size(), 5);
     assert!(rt;
         is_open(&guard, 2)

@@ -2,6 +2,7 @@ use super::common::*;
 use cache::cache::Cache;
 use flat::flat::FlatImage;
 use layer::guard::WriteGuard;
+use layer::run::Run;
 use layer::window::Window;
 use raw::raw::RawImage;
 use std::test::Fail;
@@ -25,8 +26,11 @@ fn answers<S: Store>(pile: &mut S) -> bool {
 
 /// Cache over guard over window over window over an image: no more is proved of it than of its parts.
 fn through<S: Store>(image: S) -> (bool, S) {
-    let window = Window::new(Window::new(image, 0, 4), 1, 9);
-    let mut cache = Cache::new(WriteGuard::new(window, 0, 1));
+    let window = Window::new(
+        Window::new(image, Run { first: 0, count: 4 }),
+        Run { first: 1, count: 9 },
+    );
+    let mut cache = Cache::new(WriteGuard::new(window, Run { first: 0, count: 1 }));
     let fine = answers(&mut cache);
     let window = cache.release().release();
     (fine, window.release().release())
@@ -63,7 +67,7 @@ fn over_a_raw_image(rt: HostRuntime) -> Result<(), Fail> {
         return Err(Fail::new("refused"));
     };
     assert_eq!(rt; image.size(), 3);
-    let window = Window::new(image, 0, 3);
+    let window = Window::new(image, Run { first: 0, count: 3 });
     let mut cache = Cache::new(window);
     let fine = read_refused(&mut cache, 2, 256, FaultKind::Damaged)
         && writes(&mut cache, 2, 6)

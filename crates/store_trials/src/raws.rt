@@ -57,10 +57,7 @@ fn a_write_changes_one_record(rt: HostRuntime) -> Result<(), Fail> {
 
 /// Why an image on such memory is refused.
 fn refusal<'a>(bytes: &'a mut [u8], spares: &'a [u8], records: u32) -> Option<Refusal> {
-    match RawImage::open(bytes, spares, records, Protection::Open) {
-        Ok(_) => None,
-        Err(refusal) => Some(refusal),
-    }
+    RawImage::open(bytes, spares, records, Protection::Open).err()
 }
 
 #[test]

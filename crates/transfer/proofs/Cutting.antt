@@ -1,7 +1,7 @@
 -- A span cut in two: what it comes to at once is what its parts come to, one after the other.
 use Rattle.std.proofs.Common.{◌≡◌, ℕ, zero, suc, ◌+◌, ◌-◌, ◌*◌, List, [], ◌∷◌, ◌++◌, length, take, drop, Some, None, Ok, Err, Option, Result, sym, refl, ap, ◌∙◌, ap₂, add-zero, add-suc, suc-add, zero-add, arith}
 use Rattle.std.specs.List.{slice_get}
-use Rattle.std.proofs.lemmas.List.{append_assoc, take-append-le, drop-append-le, length-drop}
+use Rattle.std.proofs.lemmas.List.{append_assoc, take-append-le, drop-append-le, length-drop, nil_from_length}
 use Rattle.store.specs.declared.fault.StoreFault.{StoreFault}
 use Rattle.store.specs.Blocks.{Block, buffer_at, write_at, open_block}
 use Rattle.host.specs.declared.fault.HostFault.{HostFault}
@@ -50,13 +50,6 @@ module _ (answer : ℕ → Option Block → Result (Unit {0}) StoreFault) where
 
 -- ---- A Write.
 
-nothing : (d : List ℕ) → length d ≡ 0 → d ≡ []
-nothing [] e = refl
-nothing (x ∷ d) e = absurd (omega arith)
-
-none_failed : (f : HostFault) → ◌≡◌ {A = Option HostFault} (Some f) None → ⊥
-none_failed f e = let z : ◌≡◌ {A = ℕ} 0 1 = cc in omega arith
-
 -- The first part is written whole: the second goes on after it.
 pub record GoesOn (b : ℕ) (os ps : List (Option Block)) (d e : List ℕ) (n : ℕ) : Type 0 where
   pub puts : put b (os ++ ps) (d ++ e) ≡ put b os d ++ put (b + n) ps e
@@ -72,7 +65,7 @@ pub record Stops (b : ℕ) (os ps : List (Option Block)) (d e : List ℕ) : Type
 module _ (u : ℕ) where
   pub goes_on : (b a : ℕ) (os ps : List (Option Block)) (d e : List ℕ) (n : ℕ) → n ≡ length os → length d ≡ 256 * n → write_fault u b a os ≡ None → GoesOn b os ps d e n
   goes_on b a [] ps d e n i l w =
-      let z : d ≡ [] = nothing d (omega arith) in
+      let z : d ≡ [] = nil_from_length d (omega arith) in
       let p : b ≡ b + n = omega arith in
       let o : n ≡ 0 = omega arith in
       record {
@@ -90,7 +83,7 @@ module _ (u : ℕ) where
           × (tried_next r (write_tried (suc b) (os ++ ps)) ≡ n + write_tried (b + n) ps)
           × (length (put_next r (open_block (take 256 d)) (put (suc b) os (drop 256 d))) ≡ n)
           × (tried_next r (write_tried (suc b) os) ≡ n)
-      go ih (Err f) w = absurd (none_failed _ w)
+      go ih (Err f) w = cc
       go ih (Ok x) w =
           let h = ih w in
           let front : take 256 (d ++ e) ≡ take 256 d = take-append-le 256 d e (omega arith) in
@@ -105,7 +98,7 @@ module _ (u : ℕ) where
           )
 
   pub stops : (b a : ℕ) (os ps : List (Option Block)) (d e : List ℕ) (n : ℕ) → n ≡ length os → length d ≡ 256 * n → (f : HostFault) → write_fault u b a os ≡ Some f → Stops b os ps d e
-  stops b a [] ps d e n i l f w = absurd (none_failed f (sym w))
+  stops b a [] ps d e n i l f w = cc
   stops b a (o ∷ os) ps d e n i l f w =
       let q = go (stops (suc b) (suc a) os ps (drop 256 d) e (n - 1) (omega arith) (simp length-drop (omega arith)) f) (write_at b o) w in
       record { puts = q.0; tries = q.1 }

@@ -11,8 +11,7 @@ use Rattle.store.specs.Blocks.{Block, Contents, sound, damaged, Whole, WholeOf, 
 use Rattle.store.proofs.Nth.{nth_set_same, nth_set_other}
 use Rattle.message.specs.declared.command.Command.{Command}
 use Rattle.host.specs.declared.fault.HostFault.{HostFault}
-use Rattle.host.specs.declared.transaction.Outcome.{Outcome}
-use Rattle.host.specs.declared.transaction.Outcome.TheVariants as outcomes
+use Rattle.host.specs.declared.transaction.Failure.{Failure}
 use Rattle.host.specs.declared.transaction.Transaction.{Transaction}
 use Rattle.transfer.specs.Segments.{span, zeros, met, read_bytes, put_next, put, write_by, moved_by_command, laid}
 use Rattle.transfer.specs.Transfers.{part, is_open, is_writable}
@@ -102,30 +101,28 @@ pub put_short : (b : ℕ) (os : List (Option Block)) (bytes : List ℕ) → leng
 put_short b [] bytes = omega arith
 put_short b (o ∷ os) bytes = put_next_short (write_at b o) _ _ (length os) (put_short (suc b) os _)
 
-write_short : (r : Outcome) (t : Transaction) (b : ℕ) (os : List (Option Block)) (buffer : List ℕ) → length (write_by r t b os buffer).put ≤ length os
-write_short outcomes.Fine t b os buffer = put_short b os buffer
-write_short outcomes.EndOfVolume t b os buffer = omega arith
-write_short outcomes.UnitFault t b os buffer = omega arith
-write_short (outcomes.Unrecoverable a) t b os buffer = omega arith
+write_short : (r : Option Failure) (t : Transaction) (b : ℕ) (os : List (Option Block)) (buffer : List ℕ) → length (write_by r t b os buffer).put ≤ length os
+write_short None t b os buffer = put_short b os buffer
+write_short (Some f) t b os buffer = omega arith
 
 pub moved_short : (k : Option Command) (t : Transaction) (b : ℕ) (os : List (Option Block)) (buffer : List ℕ) → length (moved_by_command k t b os buffer).put ≤ length os
 unfolding moved_by_command
 moved_short k t b os buffer = grind (arith, write_short)
 
 pub writes : (b : ℕ) (o : Option Block) → is_writable o ≡ true → write_at b o ≡ Ok tt
-writes b None e = absurd (let z : ◌≡◌ {A = ℕ} 0 1 = cc in omega arith)
+writes b None e = cc
 writes b (Some k) e = of k.protection e
   where
     of : (p : Protection) → is_open p ≡ true → write_of b p ≡ Ok tt
     of protections.Open e = refl
-    of protections.Protected e = absurd (let z : ◌≡◌ {A = ℕ} 0 1 = cc in omega arith)
+    of protections.Protected e = cc
 
 pub refuses : (b : ℕ) (o : Option Block) → is_writable o ≡ false → (f : StoreFault) × (write_at b o ≡ Err f)
 refuses b None e = (fault kinds.Beyond b, refl)
 refuses b (Some k) e = of k.protection e
   where
     of : (p : Protection) → is_open p ≡ false → (f : StoreFault) × (write_of b p ≡ Err f)
-    of protections.Open e = absurd (let z : ◌≡◌ {A = ℕ} 0 1 = cc in omega arith)
+    of protections.Open e = cc
     of protections.Protected e = (fault kinds.Protected b, refl)
 
 part_drop : (j : ℕ) (bytes : List ℕ) → part j (drop 256 bytes) ≡ part (suc j) bytes
@@ -163,7 +160,7 @@ module _ (bs : List Block) where
 -- What stands where something is laid.
 module _ {X : Type 0} where
   pub laid_at : (xs : List X) (p : ℕ) (ks : List X) (j : ℕ) (k : X) → (y : X) → slice_get xs (p + j) ≡ Some y → slice_get ks j ≡ Some k → slice_get (laid xs p ks) (p + j) ≡ Some k
-  laid_at xs p [] j k y there e = absurd (let z : ◌≡◌ {A = ℕ} 0 1 = cc in omega arith)
+  laid_at xs p [] j k y there e = cc
   laid_at xs p (x ∷ ks) zero k y there e =
       let here : slice_get xs p ≡ Some y = ap (slice_get xs) (sym (add-zero p)) ∙ there in
       ap (slice_get (laid (set xs p x) (suc p) ks)) (add-zero p)

@@ -6,8 +6,8 @@ use Rattle.store.specs.Blocks.{Block, read_at, write_at}
 use Rattle.message.specs.declared.command.Command.{Command}
 use Rattle.message.specs.declared.command.Command.TheVariants as commands
 use Rattle.host.specs.declared.fault.HostFault.{HostFault}
-use Rattle.host.specs.declared.transaction.Outcome.{Outcome}
-use Rattle.host.specs.declared.transaction.Outcome.TheVariants as outcomes
+use Rattle.host.specs.declared.transaction.Failure.{Failure}
+use Rattle.host.specs.declared.transaction.Failure.TheVariants as failures
 use Rattle.host.specs.declared.transaction.Transaction.{Transaction}
 use Rattle.host.specs.Progress.{first_fault}
 use Rattle.transfer.specs.Segments.{span, read_fault, read_bytes, after_reading, write_fault, after_writing, put, write_tried, laid, Moved, read_moved, verified, untried, writing, write_by, moved_by_command, is_verify}
@@ -25,12 +25,10 @@ pub record Joined (bs : List Block) (b n : ℕ) (one two all : Moved) : Type 0 w
   -- nothing is tried after a segment that was stopped
   pub full : (two.progress.tried ≡ 0) ⊎ (one.progress.tried ≡ n)
 
-after_twice : (o : Outcome) (f g : Option HostFault) → after_reading (after_reading o f) g ≡ after_reading o (first_fault f g)
-after_twice outcomes.Fine None g = refl
-after_twice outcomes.Fine (Some f) g = refl
-after_twice outcomes.EndOfVolume f g = refl
-after_twice outcomes.UnitFault f g = refl
-after_twice (outcomes.Unrecoverable a) f g = refl
+after_twice : (o : Option Failure) (f g : Option HostFault) → after_reading (after_reading o f) g ≡ after_reading o (first_fault f g)
+after_twice None None g = refl
+after_twice None (Some f) g = refl
+after_twice (Some o) f g = refl
 
 -- t is the transaction before the first segment, t' the one after it.
 module _ (bs : List Block) (b n m : ℕ) (t t' : Transaction) (unit : t'.unit ≡ t.unit) (at : t'.at ≡ t.at + n) (buffer e : List ℕ) where
@@ -56,7 +54,7 @@ module _ (bs : List Block) (b n m : ℕ) (t t' : Transaction) (unit : t'.unit �
     scan_outcome =
         ap (after_reading t.outcome) scan_fault
         ∙ sym (after_twice t.outcome (read_fault t.unit b t.at os) (read_fault t'.unit (b + n) t'.at ps))
-        ∙ ap (λ (o : Outcome). after_reading o (read_fault t'.unit (b + n) t'.at ps)) (sym out)
+        ∙ ap (λ (o : Option Failure). after_reading o (read_fault t'.unit (b + n) t'.at ps)) (sym out)
 
     scan_tried : length (span bs b (n + m)) ≡ length os + length ps
     scan_tried = omega (arith, length_span bs b (n + m), length_span bs b n, length_span bs (b + n) m)
@@ -102,7 +100,7 @@ module _ (bs : List Block) (b n m : ℕ) (t t' : Transaction) (unit : t'.unit �
   untried_joined : t'.outcome ≡ t.outcome → Joined bs b n (untried t buffer) (untried t' e) (untried t (front ++ e))
   untried_joined o = record { buffer = refl; blocks = refl; outcome = sym o; fault = refl; tried = refl; full = inl refl }
 
-  module _ (holds : 256 * n ≤ length buffer) (fine : t.outcome ≡ outcomes.Fine) (out : t'.outcome ≡ after_writing t.outcome (write_fault t.unit b t.at os)) where
+  module _ (holds : 256 * n ≤ length buffer) (fine : t.outcome ≡ None) (out : t'.outcome ≡ after_writing t.outcome (write_fault t.unit b t.at os)) where
     -- Only the front of the buffer counts.
     long : length front ≡ 256 * n
     long = simp length-take (omega arith)
@@ -140,7 +138,7 @@ module _ (bs : List Block) (b n m : ℕ) (t t' : Transaction) (unit : t'.unit �
           span_alike (laid bs b first_put) bs (b + n) m (λ c p q. laid_other bs b first_put c (inr (omega arith)))
 
       still : t'.outcome ≡ t.outcome
-      still = out ∙ ap₂ (λ (o : Outcome) (f : Option HostFault). after_writing o f) fine none ∙ sym fine
+      still = out ∙ ap₂ (λ (o : Option Failure) (f : Option HostFault). after_writing o f) fine none ∙ sym fine
 
       on_joined : Joined bs b n (writing t b os buffer) (writing t' (b + n) later e) (writing t b (span bs b (n + m)) (front ++ e))
       on_joined =
@@ -158,7 +156,7 @@ module _ (bs : List Block) (b n m : ℕ) (t t' : Transaction) (unit : t'.unit �
                 ∙ ap (λ (l : List (Option Block)). laid (laid bs b first_put) (b + n) (put (b + n) l e)) (sym second);
             outcome =
                 ap (after_writing t.outcome) (f ∙ ap (λ (g : Option HostFault). first_fault g (write_fault t'.unit (b + n) t'.at later)) none)
-                ∙ ap (λ (o : Outcome). after_writing o (write_fault t'.unit (b + n) t'.at later)) (sym still);
+                ∙ ap (λ (o : Option Failure). after_writing o (write_fault t'.unit (b + n) t'.at later)) (sym still);
             fault = f;
             tried =
                 ap (write_tried b) (span_cut bs b n m)
@@ -188,25 +186,23 @@ module _ (bs : List Block) (b n m : ℕ) (t t' : Transaction) (unit : t'.unit �
             full = inl refl;
           }
 
-      ended : t'.outcome ≡ outcomes.UnitFault
-      ended = out ∙ ap₂ (λ (o : Outcome) (g : Option HostFault). after_writing o g) fine some
+      ended : t'.outcome ≡ Some failures.UnitFault
+      ended = out ∙ ap₂ (λ (o : Option Failure) (g : Option HostFault). after_writing o g) fine some
 
-    abbrev Followed : Outcome → Type 0
+    abbrev Followed : Option Failure → Type 0
     Followed o = Joined bs b n (writing t b os buffer) (write_by o t' (b + n) later e) (writing t b (span bs b (n + m)) (front ++ e))
 
     fine_joined : (g : Option HostFault) → failed ≡ g → Followed t'.outcome
     fine_joined None g = subst Followed (sym (still g ∙ fine)) (on_joined g)
     fine_joined (Some f) g = subst Followed (sym (ended f g)) (stop_joined f g)
 
-  abbrev Unmoved : Outcome → Type 0
+  abbrev Unmoved : Option Failure → Type 0
   Unmoved o = Joined bs b n (untried t buffer) (write_by o t' (b + n) ps e) (untried t (front ++ e))
 
-  write_joined : 256 * n ≤ length buffer → (o : Outcome) → t.outcome ≡ o → t'.outcome ≡ (write_by o t b os buffer).progress.outcome →
+  write_joined : 256 * n ≤ length buffer → (o : Option Failure) → t.outcome ≡ o → t'.outcome ≡ (write_by o t b os buffer).progress.outcome →
       Joined bs b n (write_by o t b os buffer) (write_by t'.outcome t' (b + n) (span (laid bs b (write_by o t b os buffer).put) (b + n) m) e) (write_by o t b (span bs b (n + m)) (front ++ e))
-  write_joined holds outcomes.Fine i out = fine_joined holds i out (failed holds i out) refl
-  write_joined holds outcomes.EndOfVolume i out = subst Unmoved (sym (out ∙ i)) (untried_joined out)
-  write_joined holds outcomes.UnitFault i out = subst Unmoved (sym (out ∙ i)) (untried_joined out)
-  write_joined holds (outcomes.Unrecoverable a) i out = subst Unmoved (sym (out ∙ i)) (untried_joined out)
+  write_joined holds None i out = fine_joined holds i out (failed holds i out) refl
+  write_joined holds (Some f) i out = subst Unmoved (sym (out ∙ i)) (untried_joined out)
 
   -- ---- Any command.
 

@@ -8,40 +8,33 @@ use Rattle.store.specs.Blocks.{Block, Contents, sound, damaged, fault, open_bloc
 use Rattle.message.specs.declared.command.Command.{Command}
 use Rattle.message.specs.declared.command.Command.TheVariants as commands
 use Rattle.host.specs.declared.fault.HostFault.{HostFault}
-use Rattle.host.specs.declared.transaction.Outcome.{Outcome}
-use Rattle.host.specs.declared.transaction.Outcome.TheVariants as outcomes
+use Rattle.host.specs.declared.transaction.Failure.{Failure}
 use Rattle.host.specs.declared.transaction.Transaction.{Transaction}
 use Rattle.transfer.specs.Segments.{span, read_fault, read_bytes, after_reading, write_fault, after_writing, put, laid, write_by, moved_by_command}
-use Rattle.transfer.specs.Transfers.{part, is_sound, is_readable, is_writable, or_first, Scanned, HandedOver, Written, Wrote, MovesBy, Moves}
+use Rattle.transfer.specs.Transfers.{part, is_sound, is_readable, is_writable, Scanned, HandedOver, Written, Wrote, MovesBy, Moves}
 use Rattle.transfer.proofs.Faults.{read_faults, write_faults}
 use Rattle.transfer.proofs.Spans.{length_span, laid_other}
 use Rattle.transfer.proofs.Starting.{nothing_read}
 use Rattle.transfer.proofs.EachBlock.{Wholes, none_fails, first_fails, some_fails, bytes_long, part_read, writes, refuses, put_at, put_ends, put_short, laid_at}
 
 reads : (b : ℕ) (o : Option Block) → is_readable o ≡ true → read_at b o ≡ Ok tt
-reads b None e = absurd (let z : ◌≡◌ {A = ℕ} 0 1 = cc in omega arith)
+reads b None e = cc
 reads b (Some k) e = of k.contents e
   where
     of : (c : Contents) → is_sound c ≡ true → read_of b c ≡ Ok tt
     of (sound bytes) e = refl
-    of damaged e = absurd (let z : ◌≡◌ {A = ℕ} 0 1 = cc in omega arith)
+    of damaged e = cc
 
 unread : (b : ℕ) (o : Option Block) → is_readable o ≡ false → (f : StoreFault) × (read_at b o ≡ Err f)
 unread b None e = (fault kinds.Beyond b, refl)
 unread b (Some k) e = of k.contents e
   where
     of : (c : Contents) → is_sound c ≡ false → (f : StoreFault) × (read_of b c ≡ Err f)
-    of (sound bytes) e = absurd (let z : ◌≡◌ {A = ℕ} 0 1 = cc in omega arith)
+    of (sound bytes) e = cc
     of damaged e = (fault kinds.Damaged b, refl)
 
-after_first : (o : Outcome) (f : HostFault) → after_reading o (Some f) ≡ or_first o (outcomes.Unrecoverable f.address)
-after_first outcomes.Fine f = refl
-after_first outcomes.EndOfVolume f = refl
-after_first outcomes.UnitFault f = refl
-after_first (outcomes.Unrecoverable a) f = refl
-
 there : (o : Option Block) → is_writable o ≡ true → (k : Block) × (o ≡ Some k)
-there None e = absurd (let z : ◌≡◌ {A = ℕ} 0 1 = cc in omega arith)
+there None e = cc
 there (Some k) e = (k, refl)
 
 module _ (t : Transaction) (bs : List Block) (b n : ℕ) where
@@ -50,7 +43,7 @@ module _ (t : Transaction) (bs : List Block) (b n : ℕ) where
     fine = λ all. ap (after_reading t.outcome) (read_faults t.unit b t.at (span bs b n) ∙ none_fails read_at is_readable reads unread t.unit bs b t.at n all) ∙ nothing_read t.outcome;
     failed = λ j l before now.
         let f = first_fails read_at is_readable reads unread t.unit bs b t.at n j l before now in
-        ap (after_reading t.outcome) (read_faults t.unit b t.at (span bs b n) ∙ f.1) ∙ after_first t.outcome _;
+        ap (after_reading t.outcome) (read_faults t.unit b t.at (span bs b n) ∙ f.1);
   }
 
   module _ (given : List ℕ) where
@@ -76,23 +69,21 @@ module _ (t : Transaction) (bs : List Block) (b n : ℕ) where
         past c (inl l) = inl l
         past c (inr l) = let k = put_short b (span bs b n) given in let m = length_span bs b n in inr (omega arith)
 
-    wrote : t.outcome ≡ outcomes.Fine → Wrote bs b n (after_writing t.outcome (write_fault t.unit b t.at (span bs b n)))
+    wrote : t.outcome ≡ None → Wrote bs b n (after_writing t.outcome (write_fault t.unit b t.at (span bs b n)))
     wrote fine = record {
-      fine = λ all. ap₂ (λ (o : Outcome) (f : Option HostFault). after_writing o f) fine (write_faults t.unit b t.at (span bs b n) ∙ none_fails write_at is_writable writes refuses t.unit bs b t.at n all);
+      fine = λ all. ap₂ (λ (o : Option Failure) (f : Option HostFault). after_writing o f) fine (write_faults t.unit b t.at (span bs b n) ∙ none_fails write_at is_writable writes refuses t.unit bs b t.at n all);
       failed = λ j l now.
           let f = some_fails write_at is_writable writes refuses t.unit bs b t.at n j l now in
-          ap₂ (λ (o : Outcome) (g : Option HostFault). after_writing o g) fine (write_faults t.unit b t.at (span bs b n) ∙ f.1);
+          ap₂ (λ (o : Option Failure) (g : Option HostFault). after_writing o g) fine (write_faults t.unit b t.at (span bs b n) ∙ f.1);
     }
 
-    write_moves : (o : Outcome) → t.outcome ≡ o →
+    write_moves : (o : Option Failure) → t.outcome ≡ o →
         let m = write_by o t b (span bs b n) given in
-        (t.outcome ≡ outcomes.Fine → Written bs (laid bs b m.put) b n given × Wrote bs b n m.progress.outcome) ×
-        ((t.outcome ≡ outcomes.Fine → ⊥) → (laid bs b m.put ≡ bs) × (m.progress.outcome ≡ t.outcome)) ×
+        (t.outcome ≡ None → Written bs (laid bs b m.put) b n given × Wrote bs b n m.progress.outcome) ×
+        ((t.outcome ≡ None → ⊥) → (laid bs b m.put ≡ bs) × (m.progress.outcome ≡ t.outcome)) ×
         (m.buffer ≡ given)
-    write_moves outcomes.Fine i = ((λ f. (written, wrote f)), (λ n. absurd (n i)), refl)
-    write_moves outcomes.EndOfVolume i = ((λ f. absurd (let z : ◌≡◌ {A = ℕ} 0 1 = cc in omega arith)), (λ n. (refl, refl)), refl)
-    write_moves outcomes.UnitFault i = ((λ f. absurd (let z : ◌≡◌ {A = ℕ} 0 1 = cc in omega arith)), (λ n. (refl, refl)), refl)
-    write_moves (outcomes.Unrecoverable a) i = ((λ f. absurd (let z : ◌≡◌ {A = ℕ} 0 1 = cc in omega arith)), (λ n. (refl, refl)), refl)
+    write_moves None i = ((λ f. (written, wrote f)), (λ n. absurd (n i)), refl)
+    write_moves (Some x) i = ((λ f. cc), (λ n. (refl, refl)), refl)
 
     pub moves : Wholes bs → (k : Option Command) → MovesBy k t b n bs (laid bs b (moved_by_command k t b (span bs b n) given).put) given (moved_by_command k t b (span bs b n) given).buffer (moved_by_command k t b (span bs b n) given).progress.outcome
     unfolding moved_by_command
@@ -106,7 +97,7 @@ module _ (t : Transaction) (bs : List Block) (b n : ℕ) where
     moves w (Some commands.DeleteUnitLock) = tt
 
     -- The same, of what a call leaves.
-    pub moves_are : Wholes bs → (bs' : List Block) (left : List ℕ) (after : Outcome) →
+    pub moves_are : Wholes bs → (bs' : List Block) (left : List ℕ) (after : Option Failure) →
         let m = moved_by_command t.command t b (span bs b n) given in
         bs' ≡ laid bs b m.put → left ≡ m.buffer → after ≡ m.progress.outcome → Moves t b n bs bs' given left after
     moves_are w bs' left after e f o = rw (e, f, o) (moves w t.command)

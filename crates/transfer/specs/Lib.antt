@@ -1,3 +1,4 @@
 pub mod Segments
 pub mod Reports
 pub mod Transfers
+pub mod Spans

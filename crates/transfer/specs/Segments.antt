@@ -1,6 +1,7 @@
 -- What one segment does: over the blocks of its span, and the caller's buffer.
 use Rattle.std.specs.Prelude.{ℕ, zero, suc, ◌+◌, ◌*◌, Bool, true, false, cond, List, [], ◌∷◌, ◌++◌, length, take, drop, replicate, Some, None, Ok, Err, Option, Result, nat_le, slice_set}
 use Rattle.std.specs.List.{slice_get}
+use Rattle.std.specs.Option.{option_map, option_or}
 use Rattle.store.specs.declared.fault.StoreFault.{StoreFault}
 use Rattle.store.specs.Blocks.{Block, open_block, read_at, buffer_at, write_at}
 use Rattle.message.specs.declared.command.Command.{Command}
@@ -12,8 +13,8 @@ use Rattle.flex.specs.declared.unit_map.UnitMap.{UnitMap}
 use Rattle.flex.specs.Maps.{unit_at}
 use Rattle.host.specs.declared.fault.HostFault.{HostFault}
 use Rattle.host.specs.declared.fault.TransferFault.{TransferFault}
-use Rattle.host.specs.declared.transaction.Outcome.{Outcome}
-use Rattle.host.specs.declared.transaction.Outcome.TheVariants as outcomes
+use Rattle.host.specs.declared.transaction.Failure.{Failure}
+use Rattle.host.specs.declared.transaction.Failure.TheVariants as failures
 use Rattle.host.specs.declared.transaction.Transaction.{Transaction}
 use Rattle.host.specs.declared.progress.Progress.{Progress}
 use Rattle.host.specs.Progress.{lies_in, segment_of, first_fault}
@@ -67,12 +68,8 @@ read_bytes [] = []
 read_bytes (o ∷ os) = buffer_at zeros o ++ read_bytes os
 
 -- The first block that cannot be read sets 8/4 with its address, unless there is a status already.
-abbrev pub after_reading : Outcome → Option HostFault → Outcome
-after_reading outcomes.Fine None = outcomes.Fine
-after_reading outcomes.Fine (Some f) = outcomes.Unrecoverable f.address
-after_reading outcomes.EndOfVolume f = outcomes.EndOfVolume
-after_reading outcomes.UnitFault f = outcomes.UnitFault
-after_reading (outcomes.Unrecoverable a) f = outcomes.Unrecoverable a
+abbrev pub after_reading : Option Failure → Option HostFault → Option Failure
+after_reading o f = option_or o (option_map (λ x. failures.Unrecoverable x.address) f)
 
 -- Write: blocks are written in order until one refuses; that one is the last that is tried.
 abbrev pub write_fault : ℕ → ℕ → ℕ → List (Option Block) → Option HostFault
@@ -97,12 +94,8 @@ write_tried b [] = 0
 write_tried b (o ∷ os) = tried_next (write_at b o) (write_tried (suc b) os)
 
 -- A block that cannot be written sets 5/4, unless there is a status already.
-abbrev pub after_writing : Outcome → Option HostFault → Outcome
-after_writing outcomes.Fine None = outcomes.Fine
-after_writing outcomes.Fine (Some f) = outcomes.UnitFault
-after_writing outcomes.EndOfVolume f = outcomes.EndOfVolume
-after_writing outcomes.UnitFault f = outcomes.UnitFault
-after_writing (outcomes.Unrecoverable a) f = outcomes.Unrecoverable a
+abbrev pub after_writing : Option Failure → Option HostFault → Option Failure
+after_writing o f = option_or o (option_map (λ _. failures.UnitFault) f)
 
 -- The list with some elements put in from one place on.
 abbrev pub laid : {X : Type 0} → List X → ℕ → List X → List X
@@ -144,11 +137,9 @@ writing t b os buffer = record {
   };
 }
 
-abbrev pub write_by : Outcome → Transaction → ℕ → List (Option Block) → List ℕ → Moved
-write_by outcomes.Fine t b os buffer = writing t b os buffer
-write_by outcomes.EndOfVolume t b os buffer = untried t buffer
-write_by outcomes.UnitFault t b os buffer = untried t buffer
-write_by (outcomes.Unrecoverable a) t b os buffer = untried t buffer
+abbrev pub write_by : Option Failure → Transaction → ℕ → List (Option Block) → List ℕ → Moved
+write_by None t b os buffer = writing t b os buffer
+write_by (Some f) t b os buffer = untried t buffer
 
 unfoldable pub moved_by_command : Option Command → Transaction → ℕ → List (Option Block) → List ℕ → Moved
 moved_by_command None t b os buffer = untried t buffer

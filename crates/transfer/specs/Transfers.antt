@@ -1,6 +1,7 @@
 -- What moving blocks means, block by block: the law of a segment, and of a whole transfer.
 use Rattle.std.specs.Prelude.{◌≡◌, ℕ, ◌+◌, ◌*◌, ◌<◌, ◌≤◌, Bool, true, false, ◌⊎◌, List, take, drop, Some, None, Ok, Err, Option, Result, ◌≢◌}
 use Rattle.std.specs.List.{slice_get}
+use Rattle.std.specs.Option.{option_or}
 use Rattle.store.specs.declared.fault.Protection.{Protection}
 use Rattle.store.specs.declared.fault.Protection.TheVariants as protections
 use Rattle.store.specs.Blocks.{Block, Contents, sound, damaged, open_block, buffer_at}
@@ -8,8 +9,8 @@ use Rattle.message.specs.declared.command.Command.{Command}
 use Rattle.message.specs.declared.command.Command.TheVariants as commands
 use Rattle.flex.specs.declared.status.Status.{Status}
 use Rattle.host.specs.declared.progress.Progress.{Progress}
-use Rattle.host.specs.declared.transaction.Outcome.{Outcome}
-use Rattle.host.specs.declared.transaction.Outcome.TheVariants as outcomes
+use Rattle.host.specs.declared.transaction.Failure.{Failure}
+use Rattle.host.specs.declared.transaction.Failure.TheVariants as failures
 use Rattle.host.specs.declared.transaction.Transaction.{Transaction}
 use Rattle.transfer.specs.Segments.{zeros}
 
@@ -34,18 +35,11 @@ abbrev pub is_writable : Option Block → Bool
 is_writable None = false
 is_writable (Some k) = is_open k.protection
 
--- What there is to report: what there was already, else something new.
-abbrev pub or_first : Outcome → Outcome → Outcome
-or_first outcomes.Fine new = new
-or_first outcomes.EndOfVolume new = outcomes.EndOfVolume
-or_first outcomes.UnitFault new = outcomes.UnitFault
-or_first (outcomes.Unrecoverable a) new = outcomes.Unrecoverable a
-
 -- The n blocks from block b and address a on are read: the first that cannot be read is to be reported with its address, unless there was
 -- something to report already.
-pub record Scanned (bs : List Block) (b a n : ℕ) (before after : Outcome) : Type 0 where
+pub record Scanned (bs : List Block) (b a n : ℕ) (before after : Option Failure) : Type 0 where
   pub fine : ((j : ℕ) → j < n → is_readable (slice_get bs (b + j)) ≡ true) → after ≡ before
-  pub failed : (j : ℕ) → j < n → ((i : ℕ) → i < j → is_readable (slice_get bs (b + i)) ≡ true) → is_readable (slice_get bs (b + j)) ≡ false → after ≡ or_first before (outcomes.Unrecoverable (a + j))
+  pub failed : (j : ℕ) → j < n → ((i : ℕ) → i < j → is_readable (slice_get bs (b + i)) ≡ true) → is_readable (slice_get bs (b + j)) ≡ false → after ≡ option_or before (Some (failures.Unrecoverable (a + j)))
 
 -- Their bytes stand in the buffer in order, zeros for one that cannot be read; the buffer's other bytes stay.
 pub record HandedOver (bs : List Block) (b n : ℕ) (given left : List ℕ) : Type 0 where
@@ -60,19 +54,19 @@ pub record Written (bs bs' : List Block) (b n : ℕ) (given : List ℕ) : Type 0
   pub outside : (c : ℕ) → (c < b) ⊎ (b + n ≤ c) → slice_get bs' c ≡ slice_get bs c
 
 -- There is a fault to report just when one of them could not be written.
-pub record Wrote (bs : List Block) (b n : ℕ) (after : Outcome) : Type 0 where
-  pub fine : ((j : ℕ) → j < n → is_writable (slice_get bs (b + j)) ≡ true) → after ≡ outcomes.Fine
-  pub failed : (j : ℕ) → j < n → is_writable (slice_get bs (b + j)) ≡ false → after ≡ outcomes.UnitFault
+pub record Wrote (bs : List Block) (b n : ℕ) (after : Option Failure) : Type 0 where
+  pub fine : ((j : ℕ) → j < n → is_writable (slice_get bs (b + j)) ≡ true) → after ≡ None
+  pub failed : (j : ℕ) → j < n → is_writable (slice_get bs (b + j)) ≡ false → after ≡ Some failures.UnitFault
 
 -- The n blocks from b on of a transaction t are moved: from blocks bs to bs', from a buffer as it is given to one as it is left, and to what
 -- there is to report after. A Write with something to report already drops its data.
-abbrev pub MovesBy : Option Command → Transaction → ℕ → ℕ → List Block → List Block → List ℕ → List ℕ → Outcome → Type 0
+abbrev pub MovesBy : Option Command → Transaction → ℕ → ℕ → List Block → List Block → List ℕ → List ℕ → Option Failure → Type 0
 MovesBy None t b n bs bs' given left after = Unit {0}
 MovesBy (Some commands.Read) t b n bs bs' given left after =
     Scanned bs b t.at n t.outcome after × HandedOver bs b n given left × (bs' ≡ bs)
 MovesBy (Some commands.Write) t b n bs bs' given left after =
-    (t.outcome ≡ outcomes.Fine → Written bs bs' b n given × Wrote bs b n after) ×
-    ((t.outcome ≢ outcomes.Fine) → (bs' ≡ bs) × (after ≡ t.outcome)) ×
+    (t.outcome ≡ None → Written bs bs' b n given × Wrote bs b n after) ×
+    ((t.outcome ≢ None) → (bs' ≡ bs) × (after ≡ t.outcome)) ×
     (left ≡ given)
 MovesBy (Some commands.Verify) t b n bs bs' given left after =
     Scanned bs b t.at n t.outcome after × (left ≡ given) × (bs' ≡ bs)
@@ -81,7 +75,7 @@ MovesBy (Some commands.DeleteDeviceLock) t b n bs bs' given left after = Unit {0
 MovesBy (Some commands.SetUnitLock) t b n bs bs' given left after = Unit {0}
 MovesBy (Some commands.DeleteUnitLock) t b n bs bs' given left after = Unit {0}
 
-abbrev pub Moves : Transaction → ℕ → ℕ → List Block → List Block → List ℕ → List ℕ → Outcome → Type 0
+abbrev pub Moves : Transaction → ℕ → ℕ → List Block → List Block → List ℕ → List ℕ → Option Failure → Type 0
 Moves t b n bs bs' given left after = MovesBy t.command t b n bs bs' given left after
 
 -- The law of a segment: if it is not refused, its blocks are moved.

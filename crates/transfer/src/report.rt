@@ -2,7 +2,7 @@ ghost use Rattle.std.specs.Prelude.{◌≡◌};
 ghost use Rattle.transfer.specs.Reports.{with_status, report_bytes};
 
 use flex::status::Status;
-use host::transaction::Outcome;
+use host::transaction::Failure;
 
 /// How many bytes a report has.
 pub const REPORT_BYTES: usize = 13;
@@ -11,32 +11,20 @@ pub const REPORT_BYTES: usize = 13;
 fn with_status(status: Status, address: u32) -> [u8; REPORT_BYTES]
     ensures { result ≡ with_status status address }
 {
-    let [a, b, c, d] = address.to_be_bytes();
-    [
-        1,
-        status.group(),
-        status.code(),
-        0,
-        0,
-        0,
-        0,
-        0,
-        0,
-        a,
-        b,
-        c,
-        d,
-    ]
+    let mut bytes = [0; REPORT_BYTES];
+    bytes[..3].copy_from_slice(&[1, status.group(), status.code()]);
+    bytes[9..].copy_from_slice(&address.to_be_bytes());
+    bytes
 }
 
 /// The report of what a transaction came to.
-pub fn report_bytes(outcome: Outcome) -> [u8; REPORT_BYTES]
+pub fn report_bytes(outcome: Option<Failure>) -> [u8; REPORT_BYTES]
     ensures { result ≡ report_bytes outcome }
 {
     match outcome {
-        Outcome::Fine => [0; REPORT_BYTES],
-        Outcome::EndOfVolume => with_status(Status::EndOfVolume, 0),
-        Outcome::UnitFault => with_status(Status::UnitFault, 0),
-        Outcome::Unrecoverable(address) => with_status(Status::UnrecoverableData, address),
+        None => [0; REPORT_BYTES],
+        Some(Failure::EndOfVolume) => with_status(Status::EndOfVolume, 0),
+        Some(Failure::UnitFault) => with_status(Status::UnitFault, 0),
+        Some(Failure::Unrecoverable(address)) => with_status(Status::UnrecoverableData, address),
     }
 }

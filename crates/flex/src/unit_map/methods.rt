@@ -1,15 +1,13 @@
-ghost use Rattle.std.specs.Prelude.{◌≡◌, ◌^◌, ◌<◌, ◌≤◌, true, length, IfSome, is_ok};
-ghost use Rattle.flex.specs.Maps.{block_at, block_in, geometry_at, padded, unit_at, Makes, Named};
-ghost use Rattle.flex.specs.Units.{past, Sound};
+ghost use Rattle.std.specs.Prelude.{◌≡◌, ◌≤◌, true, length, is_ok};
+ghost use Rattle.flex.specs.Maps.{block_at, geometry_at, padded, unit_at, Makes, Named};
+ghost use Rattle.flex.specs.Units.{Sound};
 
-use super::{UNITS, UnitMap};
+use super::{CONTROLLER, UNITS, UnitMap};
 use crate::geometry::Geometry;
 use crate::status::Status;
 use crate::unit::Unit;
 use crate::units::are_sound;
 
-/// The number of the controller, which messages may address as a unit with no place.
-const CONTROLLER: u8 = 15;
 /// The controller's geometry.
 const NO_PLACES: Geometry = Geometry {
     cylinders: 0,
@@ -27,20 +25,8 @@ fn table(units: &[Unit]) -> [Unit; UNITS]
         geometry: NO_PLACES,
     };
     let mut all = [blank; UNITS];
-    let n = units.len();
-    all[0..n].copy_from_slice(units);
+    all[..units.len()].copy_from_slice(units);
     all
-}
-
-/// The block of the store at an address of a unit, or none.
-fn block_in(unit: Option<Unit>, address: u32) -> Option<u32>
-    requires { IfSome unit (λ u. past u < 2 ^ 32) }
-    ensures { result ≡ block_in address unit }
-{
-    match unit {
-        Some(unit) if address < unit.geometry.size() => Some(unit.first + address),
-        _ => None,
-    }
 }
 
 impl UnitMap {
@@ -77,22 +63,16 @@ impl UnitMap {
     pub fn unit(&self, number: u8) -> Option<Unit>
         ensures { result ≡ unit_at self.now number }
     {
-        if number < self.count {
-            Some(self.units[number as usize])
-        } else {
-            None
-        }
+        (number < self.count).then(|| self.units[usize::from(number)])
     }
 
     /// The geometry that a message for that unit is held against, the controller's too; or none.
     pub fn geometry(&self, number: u8) -> Option<Geometry>
         ensures { result ≡ geometry_at self.now number }
     {
-        match self.unit(number) {
-            Some(unit) => Some(unit.geometry),
-            None if number == CONTROLLER => Some(NO_PLACES),
-            None => None,
-        }
+        self.unit(number)
+            .map(|unit| unit.geometry)
+            .or((number == CONTROLLER).then_some(NO_PLACES))
     }
 
     /// The block of the store at an address of a unit, or none.
@@ -100,6 +80,7 @@ impl UnitMap {
         ensures is { result ≡ block_at self.now number address }
         ensures law { Named self.now }
     {
-        block_in(self.unit(number), address)
+        let unit = self.unit(number)?;
+        (address < unit.geometry.size()).then(|| unit.first + address)
     }
 }

@@ -3,4 +3,4 @@ use Rattle.cuwajimo.specs.Bytes.{pattern_byte}
 use Rattle.cuwajimo.proofs.fill.pattern.Given as goal
 
 abbrev pub invariant-loop-place : goal.invariant-loop-place
-invariant-loop-place l = (length l.bytes ≡ 256) × ((k : ℕ) → k < l.place → get_or l.bytes k 0 ≡ pattern_byte l.p l.block k)
+invariant-loop-place l = (length l.byte-items ≡ 256) × ((k : ℕ) → k < l.place → get_or l.byte-items k 0 ≡ pattern_byte l.p l.block k)

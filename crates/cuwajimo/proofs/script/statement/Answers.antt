@@ -4,10 +4,10 @@ use Rattle.cuwajimo.specs.Lines.{before_comment}
 use Rattle.cuwajimo.proofs.Comments.{all_said, said_before}
 use Rattle.cuwajimo.proofs.script.statement.Goals as goal
 
-pub returns-in-Some : goal.returns-in-Some
-returns-in-Some c =
+pub returns : goal.returns
+returns c =
     let parts = split_parts 35 c.args.line.now (Some (c.in-Some.before, c.in-Some.field-0-1)) c.in-Some.ensures.cases (lit< tt) in
     sym (ap before_comment parts.0 ∙ said_before c.in-Some.before.now c.in-Some.field-0-1.now parts.1)
 
-pub returns-in-None : goal.returns-in-None
-returns-in-None c = sym (all_said c.args.line.now (split_parts 35 c.args.line.now None c.in-None.ensures.cases (lit< tt)))
+pub returns-in_default : goal.returns-in_default
+returns-in_default c = sym (all_said c.args.line.now (split_parts 35 c.args.line.now None c.in_default.ensures.cases (lit< tt)))

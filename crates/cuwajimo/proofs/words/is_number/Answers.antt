@@ -1,5 +1,5 @@
 use Rattle.std.proofs.Common.{◌∙◌}
-use Rattle.cuwajimo.proofs.Numbers.{is_parsed}
+use Rattle.cuwajimo.specs.Numerals.{is_parsed}
 use Rattle.cuwajimo.proofs.words.is_number.Goals as goal
 
 pub returns : goal.returns

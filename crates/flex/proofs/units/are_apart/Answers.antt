@@ -1,24 +1,24 @@
-use Rattle.std.proofs.Common.{◌≡◌, ◌+◌, ◌-◌, ◌&&◌, length, get_or, take, drop, sym, ◌∙◌, arith}
-use Rattle.std.proofs.lemmas.List.{at_drop_more, at_drop_all, take_rest}
+use Rattle.std.proofs.Common.{◌≡◌, ◌-◌, ◌≤◌, ◌&&◌, List, [], ◌∷◌, length, get_or, take, drop, arith, rules, tests}
 use Rattle.std.proofs.lemmas.Bool.Decides.{nat_tests}
-use Rattle.flex.specs.Units.{all_apart, apart, every, blank}
+use Rattle.std.proofs.lemmas.Iterator.{YieldsList-from_slice}
+use Rattle.std.proofs.lemmas.Iterator.Search.{all_from_yields_List}
+use Rattle.std.proofs.lemmas.List.{take_rest}
+use Rattle.std.specs.List.{list_all}
+use Rattle.flex.specs.declared.unit.Unit.{Unit as DiscUnit}
+use Rattle.flex.specs.Units.{all_apart, apart, blank}
 use Rattle.flex.proofs.units.are_apart.Goals as goal
 
-pub returns-then-not-is_apart_from : goal.returns-then-not-is_apart_from
-returns-then-not-is_apart_from c =
-    let us = c.args.units.now in
-    let i = c.loop-i.i in
-    let t : take (length us - (i + 1)) (drop (i + 1) us) ≡ drop (i + 1) us = take_rest us (i + 1) in
-    let e : all_apart (drop i us) ≡ (every (apart (get_or us i blank)) (drop (i + 1) us) && all_apart (drop (i + 1) us)) = at_drop_more all_apart us i blank c.loop-i-test.true in
-    grind (arith, nat_tests)
+-- all but the first, as a pattern has them
+abbrev others : List DiscUnit → List DiscUnit
+others us = take (length us - 1) (drop 1 us)
 
-pub loop-i-preserved : goal.loop-i-preserved
-loop-i-preserved c =
-    let us = c.args.units.now in
-    let i = c.loop-i.i in
-    let t : take (length us - (i + 1)) (drop (i + 1) us) ≡ drop (i + 1) us = take_rest us (i + 1) in
-    let e : all_apart (drop i us) ≡ (every (apart (get_or us i blank)) (drop (i + 1) us) && all_apart (drop (i + 1) us)) = at_drop_more all_apart us i blank c.loop-i-test.true in
-    grind (arith, nat_tests)
+first_apart : (us : List DiscUnit) → 1 ≤ length us → all_apart us ≡ (list_all (apart (get_or us 0 blank)) (others us) && all_apart (others us))
+first_apart [] h = absurd (omega arith)
+first_apart (u ∷ us) h = rw take_rest
 
-pub returns : goal.returns
-returns c = sym (at_drop_all all_apart c.args.units.now c.loop-i.i (omega arith)) ∙ c.loop-i.invariant
+pub loop-left-preserved : goal.loop-left-preserved
+loop-left-preserved c =
+    let us = c.loop-left.left.now in
+    let first = first_apart us c.in-len1-up.len_at_least in
+    let e : c.all.result ≡ list_all (apart (get_or us 0 blank)) (others us) = all_from_yields_List (apart (get_or us 0 blank)) _ _ c.all.result c.all.ensures.ran (YieldsList-from_slice (others us) cc) (λ x b q k. search (rules, tests)) in
+    grind (arith, nat_tests)

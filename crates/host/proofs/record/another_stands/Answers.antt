@@ -1,17 +1,17 @@
-use Rattle.std.proofs.Common.{◌≡◌, true, length, sym, arith, rules}
-use Rattle.std.proofs.lemmas.Bool.Decides.{nat_tests}
-use Rattle.host.specs.Hosts.{stands, is_another}
-use Rattle.host.proofs.Below.{some_below_none, some_below_more, some_below_found}
+use Rattle.std.proofs.Common.{ℕ, Bool, not, ◌&&◌, ◌==◌, ◌∙◌, rules, tests}
+use Rattle.std.proofs.lemmas.Iterator.{YieldsList-from_slice}
+use Rattle.std.proofs.lemmas.Iterator.Consumers.{YieldsList-from_enumerate}
+use Rattle.std.proofs.lemmas.Iterator.Search.{any_from_yields_List}
+use Rattle.host.specs.declared.record.Host.{Host}
+use Rattle.host.specs.Hosts.{stands}
+use Rattle.host.proofs.Below.{any_place}
 use Rattle.host.proofs.record.another_stands.Goals as goal
 
-pub loop-other-init : goal.loop-other-init
-loop-other-init c = search (rules, some_below_none)
-
-pub returns-then-stands_at : goal.returns-then-stands_at
-returns-then-stands_at c =
+pub returns : goal.returns
+returns c =
     let hosts = c.args.hosts.now in
-    let e : is_another (stands c.args.want) c.args.place hosts c.loop-other.other ≡ true = search rules in
-    sym (some_below_found (is_another (stands c.args.want) c.args.place hosts) c.loop-other.other (length hosts) (omega arith) e)
-
-pub loop-other-preserved : goal.loop-other-preserved
-loop-other-preserved c = grind (arith, some_below_more, nat_tests)
+    let test : ℕ × Host → Bool = λ p. not (p.0 == c.args.place) && stands c.args.want p.1 in
+    any_from_yields_List test _ _ _ c.any.ensures.ran
+    (YieldsList-from_enumerate (YieldsList-from_slice hosts cc) (cc))
+    (λ x b q k. search (rules, tests))
+    ∙ any_place (λ g host. not (g == c.args.place) && stands c.args.want host) hosts

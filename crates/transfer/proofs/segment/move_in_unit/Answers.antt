@@ -1,16 +1,9 @@
-use Rattle.std.proofs.Common.{◌≡◌, ◌+◌, sym, ap, ◌∙◌, arith}
+use Rattle.std.proofs.Common.{◌≡◌, ◌+◌, sym, ap, ◌∙◌}
 use Rattle.flex.specs.Maps.{unit_at}
 use Rattle.host.specs.Progress.{segment_of}
 use Rattle.transfer.specs.Segments.{first_of, span, laid, untried, Moved, moved_by_command}
-use Rattle.transfer.proofs.Starting.{nothing_left, ends_before, not_tried}
+use Rattle.transfer.proofs.Starting.{nothing_left, not_tried}
 use Rattle.transfer.proofs.segment.move_in_unit.Goals as goal
-
-pub move_from-requires : goal.move_from-requires
-move_from-requires g c =
-    let e = ends_before c.args.map.now c.in-Some.ensures.law c.args.transaction c.in-Some.block c.requires.lies (sym c.in-Some.ensures.is) in
-    let b = e.0 in
-    let a = e.1 in
-    record { blocks = omega arith; addresses = omega arith; holds = c.requires.holds }
 
 pub returns-in-None : goal.returns-in-None
 returns-in-None g c =
@@ -22,7 +15,7 @@ returns-in-None g c =
     let is : moved_by_command t.command t b (span bs b (segment_of t)) c.args.buffer.now ≡ untried t c.args.buffer.now =
     ap (λ n. moved_by_command t.command t b (span bs b n) c.args.buffer.now) none ∙ not_tried t.command t b c.args.buffer.now in
     record {
-      progress = sym (ap (λ (m : Moved). m.progress) is);
+      progress = c.not_tried.ensures ∙ sym (ap (λ (m : Moved). m.progress) is);
       buffer = sym (ap (λ (m : Moved). m.buffer) is);
       after = sym (ap (λ (m : Moved). laid bs b m.put) is);
     }

@@ -1,4 +1,4 @@
-use Rattle.std.proofs.Common.{set, sym, ap, ◌∙◌, subst}
+use Rattle.std.proofs.Common.{◌≡◌, length, set, sym, ap, ◌∙◌, subst, rules}
 use Rattle.cache.specs.declared.slot.Slot.{Slot}
 use Rattle.cache.specs.Caches.{held, means, put_at, with_room, KeptLate}
 use Rattle.cache.proofs.CacheFacts.{keeping_written}
@@ -13,11 +13,13 @@ returns g c =
     let p = c.room-place.result in
     let b = c.args.block in
     let bytes = c.args.bytes.now in
+    let whole : length c.args.bytes.now ≡ 256 = search rules in
+    let eight : length c.args.self.now.slots ≡ 8 = search rules in
     let put = ap (λ (x : Slot). record { slots = set roomy.slots p x; below = g.S.Store.blocks roomy.below; turn = roomy.turn }) c.fill.ensures
     ∙ ap (λ k. put_at k p b bytes) c.room-place.ensures.held
     ∙ ap (λ q. put_at (with_room h b) q b bytes) c.room-place.ensures.place in
     record {
       held = put;
-      after = ap means put ∙ keeping_written h b bytes c.requires c.room-place.ensures.eight;
-      late = subst (λ k. KeptLate h k b bytes) (sym put) (keeping_late h b bytes c.requires c.room-place.ensures.eight);
+      after = ap means put ∙ keeping_written h b bytes whole eight;
+      late = subst (λ k. KeptLate h k b bytes) (sym put) (keeping_late h b bytes whole eight);
     }

@@ -1,6 +1,5 @@
-use Rattle.std.proofs.Common.{refl}
 use Rattle.cache.proofs.CacheFacts.{cached_vacant}
 use Rattle.cache.proofs.cache.Cache.new.Goals as goal
 
-pub returns : goal.returns
-returns g c = record { below = refl; vacant = (refl, refl); same = cached_vacant (g.S.Store.blocks c.args.below) }
+pub returns-clause-same : goal.returns-clause-same
+returns-clause-same g c = cached_vacant (g.S.Store.blocks c.args.below)

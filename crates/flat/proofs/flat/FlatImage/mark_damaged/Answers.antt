@@ -13,10 +13,3 @@ returns-then-block-count c =
     let f = flat_harms s.bytes.now s.damage.now s.protection c.args.block in
     let g = marks_one s.damage.now c.args.block (in_map (length s.bytes.now) (length s.damage.now) c.args.block h) in
     search rules
-
-pub returns-else-block-count : goal.returns-else-block-count
-returns-else-block-count c =
-    let s = c.args.self.now in
-    let l = length_flat s.bytes.now s.damage.now s.protection in
-    let f = flat_harms s.bytes.now s.damage.now s.protection c.args.block in
-    search rules

@@ -1,27 +1,15 @@
-use Rattle.std.proofs.Common.{◌≡◌, ◌+◌, ◌-◌, ◌*◌, ◌<◌, length, arith, rules}
+use Rattle.std.proofs.Common.{◌≡◌, ◌+◌, ◌-◌, ◌*◌, ◌<◌, length, sym, ◌∙◌, arith, rules}
+use Rattle.store.proofs.Writes.{permitted}
 use Rattle.image.proofs.Parts.{laid_over}
 use Rattle.flat.specs.Flat.{flat_size}
 use Rattle.flat.proofs.OneBit.{unmarks_one}
 use Rattle.flat.proofs.FlatBlocks.{in_map, flat_wrote, flat_writes}
 use Rattle.flat.proofs.flat.FlatImageStore.write.Goals as goal
 
-pub returns-in_err-number : goal.returns-in_err-number
-returns-in_err-number c =
+pub returns-in_err-permit : goal.returns-in_err-permit
+returns-in_err-permit c =
     let s = c.args.self.now in
     let e = flat_writes s.bytes.now s.damage.now s.protection c.args.block c.args.bytes.now in
-    search rules
-
-pub returns-in-Protected : goal.returns-in-Protected
-returns-in-Protected c =
-    let s = c.args.self.now in
-    let e = flat_writes s.bytes.now s.damage.now s.protection c.args.block c.args.bytes.now in
-    search rules
-
-pub unmark-requires : goal.unmark-requires
-unmark-requires c =
-    let s = c.args.self.now in
-    let h : c.args.block < flat_size (length s.bytes.now) (length s.damage.now) = search rules in
-    let m = in_map (length s.bytes.now) (length s.damage.now) c.args.block h in
     search rules
 
 pub returns : goal.returns
@@ -29,7 +17,7 @@ returns c =
     let s = c.args.self.now in
     let h : c.args.block < flat_size (length s.bytes.now) (length s.damage.now) = search rules in
     let w : length c.args.bytes.now ≡ 256 = search rules in
-    let e = flat_wrote s.bytes.now s.damage.now s.protection c.args.block c.args.bytes.now h w c.in_default.is in
+    let e = flat_wrote s.bytes.now s.damage.now s.protection c.args.block c.args.bytes.now h w (permitted c.args.block s.protection (sym c.permit.ensures ∙ c.in_ok-permit.was)) in
     let g = unmarks_one s.damage.now c.args.block (in_map (length s.bytes.now) (length s.damage.now) c.args.block h) in
     let l = laid_over s.bytes.now (256 * c.args.block) (256 * c.args.block + 256 - 256 * c.args.block) c.args.bytes.now (omega arith) in
     search rules

@@ -1,6 +1,8 @@
-use Rattle.std.proofs.Common.{rules}
 use Rattle.flex.proofs.Places.{numbered}
 use Rattle.flex.proofs.geometry.Geometry.address_at.Goals as goal
 
-pub returns : goal.returns
-returns c = record { is = search rules; law = numbered c.args.self }
+pub returns-then-vector-cylinders-clause-law : goal.returns-then-vector-cylinders-clause-law
+returns-then-vector-cylinders-clause-law c = numbered c.args.self
+
+pub returns-clause-law : goal.returns-clause-law
+returns-clause-law c = numbered c.args.self

@@ -1,6 +1,8 @@
-use Rattle.std.proofs.Common.{rules}
 use Rattle.flex.proofs.Places.{numbered}
 use Rattle.flex.proofs.geometry.Geometry.vector_at.Goals as goal
 
-pub returns : goal.returns
-returns c = record { is = search rules; law = numbered c.args.self }
+pub returns-then-address-size-clause-law : goal.returns-then-address-size-clause-law
+returns-then-address-size-clause-law c = numbered c.args.self
+
+pub returns-clause-law : goal.returns-clause-law
+returns-clause-law c = numbered c.args.self

@@ -1,14 +1,15 @@
 use Rattle.std.proofs.Common.{◌≡◌, true, false, length, take, refl, ap, ◌∙◌, rules}
 use Rattle.std.proofs.lemmas.Bool.{both_ways, false≢true}
-use Rattle.flex.specs.Units.{all_apart, counted, every, inside, sound}
+use Rattle.std.specs.List.{list_all}
+use Rattle.flex.specs.Units.{all_apart, counted, inside, sound}
 use Rattle.flex.proofs.Naming.{length_padded, take_padded}
 use Rattle.flex.proofs.Soundness.{parts_from, sound_from, sound_to}
 use Rattle.flex.proofs.unit_map.UnitMap.new.Goals as goal
 
-pub returns-then-not-are_sound : goal.returns-then-not-are_sound
-returns-then-not-are_sound c =
+pub returns-then-not-are_sound-clause-law : goal.returns-then-not-are_sound-clause-law
+returns-then-not-are_sound-clause-law c =
     let e : sound c.args.units.now c.args.end ≡ false = search rules in
-    record { is = (e, refl); law = (λ t. absurd (false≢true t), λ s. absurd (both_ways _ e (sound_to _ _ s))) }
+    (λ t. absurd (false≢true t), λ s. absurd (both_ways _ e (sound_to _ _ s)))
 
 pub invariant_of-result : goal.invariant_of-result
 invariant_of-result c =
@@ -22,12 +23,12 @@ invariant_of-result c =
       some = p.some;
       few = p.few;
       reachable = p.reachable;
-      counts = ap (every counted) front ∙ p.counts;
+      counts = ap (list_all counted) front ∙ p.counts;
       once = ap all_apart front ∙ p.once;
-      within = ap (every (inside c.args.end)) front ∙ p.within;
+      within = ap (list_all (inside c.args.end)) front ∙ p.within;
     }
 
-pub returns : goal.returns
-returns c =
+pub returns-clause-law : goal.returns-clause-law
+returns-clause-law c =
     let e : sound c.args.units.now c.args.end ≡ true = search rules in
-    record { is = (e, c.table.ensures, refl, refl); law = (λ _. sound_from _ _ e, λ _. refl) }
+    (λ _. sound_from _ _ e, λ _. refl)

@@ -1,46 +1,35 @@
-use Rattle.std.proofs.Common.{sym, refl, ap, ◌∙◌, subst, arith}
+use Rattle.std.proofs.Common.{Err, sym, ap, ◌∙◌, subst, arith}
 use Rattle.layer.specs.Guards.{guard, RunStays}
-use Rattle.layer.proofs.GuardFacts.{past_write, past_written, past_below, run_write, run_written, run_below, free_write, free_written, free_below, free_stays}
+use Rattle.layer.proofs.GuardFacts.{past_write, past_written, run_write, run_written, free_write, free_written, free_stays}
 use Rattle.layer.proofs.guard.WriteGuardStore.write.Goals as goal
 
-pub returns-then-block-size : goal.returns-then-block-size
-returns-then-block-size g c =
-    let s = c.args.self.now in
-    let bs = g.S.Store.blocks s.below in
-    let whole = c.if-bytes-ne-BLOCK_BYTES.false in
-    record {
-      answer = past_write bs s.first s.count c.args.block c.args.bytes.now whole (omega (arith, c.size.ensures));
-      after = past_written bs s.first s.count c.args.block c.args.bytes.now whole (omega (arith, c.size.ensures));
-      below = past_below bs s.first s.count c.args.block c.args.bytes.now whole (omega (arith, c.size.ensures));
-      stays = λ j run. refl;
-      run = (refl, refl);
-    }
+pub returns-then-block-size-clause-answer : goal.returns-then-block-size-clause-answer
+returns-then-block-size-clause-answer g c =
+    let s = c.args.self.now in ap Err c.at-then-block-size.ensures ∙ past_write (g.S.Store.blocks s.below) s.run c.args.block c.args.bytes.now c.if-bytes-ne-BLOCK_BYTES.false (omega (arith, c.size.ensures))
 
-pub returns-then-covers : goal.returns-then-covers
-returns-then-covers g c =
-    let s = c.args.self.now in
-    let bs = g.S.Store.blocks s.below in
-    let whole = c.if-bytes-ne-BLOCK_BYTES.false in
-    let run = sym c.if-covers.ensures in
-    record {
-      answer = run_write bs s.first s.count c.args.block c.args.bytes.now whole (omega (arith, c.size.ensures)) run;
-      after = run_written bs s.first s.count c.args.block c.args.bytes.now whole (omega (arith, c.size.ensures)) run;
-      below = run_below bs s.first s.count c.args.block c.args.bytes.now whole (omega (arith, c.size.ensures)) run;
-      stays = λ j run. refl;
-      run = (refl, refl);
-    }
+pub returns-then-block-size-clause-after : goal.returns-then-block-size-clause-after
+returns-then-block-size-clause-after g c =
+    let s = c.args.self.now in past_written (g.S.Store.blocks s.below) s.run c.args.block c.args.bytes.now c.if-bytes-ne-BLOCK_BYTES.false (omega (arith, c.size.ensures))
 
-pub returns : goal.returns
-returns g c =
+pub returns-then-contains-clause-answer : goal.returns-then-contains-clause-answer
+returns-then-contains-clause-answer g c =
+    let s = c.args.self.now in ap Err c.at-then-contains.ensures ∙ run_write (g.S.Store.blocks s.below) s.run c.args.block c.args.bytes.now c.if-bytes-ne-BLOCK_BYTES.false (omega (arith, c.size.ensures)) (sym c.if-contains.ensures)
+
+pub returns-then-contains-clause-after : goal.returns-then-contains-clause-after
+returns-then-contains-clause-after g c =
+    let s = c.args.self.now in run_written (g.S.Store.blocks s.below) s.run c.args.block c.args.bytes.now c.if-bytes-ne-BLOCK_BYTES.false (omega (arith, c.size.ensures)) (sym c.if-contains.ensures)
+
+pub returns-clause-answer : goal.returns-clause-answer
+returns-clause-answer g c =
+    let s = c.args.self.now in c.write.ensures.answer ∙ free_write (g.S.Store.blocks s.below) s.run c.args.block c.args.bytes.now c.if-bytes-ne-BLOCK_BYTES.false (sym c.if-contains.ensures)
+
+pub returns-clause-after : goal.returns-clause-after
+returns-clause-after g c =
+    let s = c.args.self.now in
+    ap (λ l. guard l s.run) c.write.ensures.after ∙ free_written (g.S.Store.blocks s.below) s.run c.args.block c.args.bytes.now c.if-bytes-ne-BLOCK_BYTES.false (sym c.if-contains.ensures)
+
+pub returns-clause-stays : goal.returns-clause-stays
+returns-clause-stays g c =
     let s = c.args.self.now in
     let bs = g.S.Store.blocks s.below in
-    let whole = c.if-bytes-ne-BLOCK_BYTES.false in
-    let free = sym c.if-covers.ensures in
-    let after = c.write.ensures.after in
-    record {
-      answer = c.write.ensures.answer ∙ free_write bs s.first s.count c.args.block c.args.bytes.now whole free;
-      after = ap (λ l. guard l s.first s.count) after ∙ free_written bs s.first s.count c.args.block c.args.bytes.now whole free;
-      below = after ∙ free_below bs s.first s.count c.args.block c.args.bytes.now whole free;
-      stays = subst (λ l. RunStays bs l s.first s.count) (sym after) (free_stays bs s.first s.count c.args.block c.args.bytes.now whole free);
-      run = (refl, refl);
-    }
+    subst (λ l. RunStays bs l s.run) (sym c.write.ensures.after) (free_stays bs s.run c.args.block c.args.bytes.now c.if-bytes-ne-BLOCK_BYTES.false (sym c.if-contains.ensures))

@@ -10,6 +10,3 @@ returns-then-block-count c =
     let e = raw_harmed s.bytes.now s.spares.now s.records s.protection c.args.block h in
     let f = raw_harms s.bytes.now s.spares.now s.records s.protection c.args.block in
     search rules
-
-pub returns-else-block-count : goal.returns-else-block-count
-returns-else-block-count c = let s = c.args.self.now in let f = raw_harms s.bytes.now s.spares.now s.records s.protection c.args.block in search rules

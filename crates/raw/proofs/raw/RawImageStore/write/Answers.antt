@@ -1,22 +1,20 @@
-use Rattle.std.proofs.Common.{◌≡◌, ◌+◌, ◌-◌, ◌*◌, ◌<◌, length, set, arith, rules}
+use Rattle.std.proofs.Common.{◌≡◌, ◌+◌, ◌-◌, ◌*◌, ◌<◌, length, set, sym, ◌∙◌, arith, rules}
+use Rattle.store.proofs.Writes.{permitted}
 use Rattle.image.proofs.Parts.{laid_over}
 use Rattle.raw.specs.Raw.{raw_record, raw_size}
 use Rattle.raw.specs.Lawful.{inside_raw}
 use Rattle.raw.proofs.RawBlocks.{raw_writes, raw_wrote, writes_record}
 use Rattle.raw.proofs.raw.RawImageStore.write.Goals as goal
 
-pub returns-in_err-number : goal.returns-in_err-number
-returns-in_err-number c = let s = c.args.self.now in let e = raw_writes s.bytes.now s.spares.now s.records s.protection c.args.block c.args.bytes.now in search rules
-
-pub returns-in-Protected : goal.returns-in-Protected
-returns-in-Protected c = let s = c.args.self.now in let e = raw_writes s.bytes.now s.spares.now s.records s.protection c.args.block c.args.bytes.now in search rules
+pub returns-in_err-permit : goal.returns-in_err-permit
+returns-in_err-permit c = let s = c.args.self.now in let e = raw_writes s.bytes.now s.spares.now s.records s.protection c.args.block c.args.bytes.now in search rules
 
 pub returns : goal.returns
 returns c =
     let s = c.args.self.now in
     let h : c.args.block < raw_size (length s.bytes.now) (length s.spares.now) s.records = search rules in
     let w : length c.args.bytes.now ≡ 256 = search rules in
-    let e = raw_wrote s.bytes.now s.spares.now s.records s.protection c.args.block c.args.bytes.now h w c.in_default.is in
+    let e = raw_wrote s.bytes.now s.spares.now s.records s.protection c.args.block c.args.bytes.now h w (permitted c.args.block s.protection (sym c.permit.ensures ∙ c.in_ok-permit.was)) in
     let g = writes_record s.bytes.now (raw_record s.spares.now s.records c.args.block) c.args.bytes.now (inside_raw s.spares.now (length s.bytes.now) s.records c.args.block h) w in
     let from = 276 * raw_record s.spares.now s.records c.args.block + 6 in
     let l = laid_over (set s.bytes.now (276 * raw_record s.spares.now s.records c.args.block) 0) from (from + 256 - from) c.args.bytes.now (omega arith) in

@@ -1,0 +1,13 @@
+use Rattle.std.proofs.Common.{◌≡◌, arith, rules, tests}
+use Rattle.std.proofs.lemmas.Bool.Decides.{nat_tests}
+use Rattle.std.proofs.lemmas.Iterator.{YieldsList-from_slice}
+use Rattle.std.proofs.lemmas.Iterator.Search.{all_from_yields_List}
+use Rattle.std.specs.List.{list_all}
+use Rattle.flex.specs.Units.{inside}
+use Rattle.flex.proofs.units.are_sound.Goals as goal
+
+pub returns-then-are_apart : goal.returns-then-are_apart
+returns-then-are_apart c =
+    let us = c.args.units.now in
+    let e : c.all.result ≡ list_all (inside c.args.end) us = all_from_yields_List (inside c.args.end) _ _ c.all.result c.all.ensures.ran (YieldsList-from_slice us cc) (λ x b q k. search (rules, tests)) in
+    grind (arith, nat_tests)
