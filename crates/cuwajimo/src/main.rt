@@ -17,6 +17,8 @@ mod run;
 mod say;
 mod script;
 mod session;
+#[cfg(test)]
+mod trials;
 mod trouble;
 mod words;
 
