@@ -37,10 +37,11 @@ same_block None (Some b) = false
 same_block (Some a) None = false
 same_block (Some a) (Some b) = a == b
 
--- The first slot that keeps this block, or with none the first that is vacant, by its place.
+-- A slot keeps this block, or with none is vacant.
 abbrev pub keeps : Option ℕ → Slot → Bool
 keeps o s = same_block s.block o
 
+-- The first slot that does, by its place.
 abbrev pub place : List Slot → Option ℕ → Option ℕ
 place slots o = position_from (keeps o) 0 slots
 

@@ -1,4 +1,5 @@
--- Numbers of decimal digits, as `parse` reads them.
+-- Numbers of decimal digits, as `parse` reads them: no definition, but the law that each width of number owes to the trait
+-- `Numeral`, with its proof.
 use Rattle.std.proofs.Common.{◌≡◌, ℕ, ◌^◌, ◌<◌, Bool, true, false, cond, ◌&&◌, ltb, List, length, is_ok, is_some, Some, None, Ok, Err, Option, Result, sym, refl, ap, ◌∙◌, subst, rules}
 use Rattle.std.specs.Str.Parse.{ParsesUnsigned, digits_value, without_leading_plus}
 use Rattle.std.specs.Option.{option_map}

@@ -13,9 +13,11 @@ use Rattle.device.specs.declared.ticket.Ticket.{Ticket}
 use Rattle.device.specs.Calls.{bearer}
 use Rattle.device.specs.Device.{Known, with_waits, fitting, number_on, phase_on}
 
+-- What is kept of a host that makes a call, without its number.
 abbrev pub known : Caller → Known
 known p = record { host = p.host; mail = p.mail }
 
+-- The same of a host that is found, or the refusal.
 abbrev pub answered : Result Caller Status → Result Known Status
 answered (Ok p) = Ok (known p)
 answered (Err s) = Err s
@@ -28,6 +30,7 @@ known_or c h = cond (nat_lt h 8) (Ok (record { host = host_at c.hosts h; mail = 
 abbrev pub pass_on : Ticket → Pass
 pass_on k = record { device = number_on k; host = bearer k; phase = phase_on k }
 
+-- A host, with its open transaction where that is one that the ticket fits.
 abbrev pub fitted : Controller → Pass → Known → Option (Known × Transaction)
 fitted c p k = option_map (λ t. (k, t)) (fitting c.number p.device p.phase k.host.transaction)
 
