@@ -35,7 +35,8 @@ impl<S: Store> WriteGuard<S> {
     pub fn release(self) -> S
         ensures { result ≡ self.below }
     {
-        self.below
+        let WriteGuard { below, run: _ } = self;
+        below
     }
 }
 

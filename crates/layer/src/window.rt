@@ -41,7 +41,8 @@ impl<S: Store> Window<S> {
     pub fn release(self) -> S
         ensures { result ≡ self.below }
     {
-        self.below
+        let Window { below, run: _ } = self;
+        below
     }
 
     /// The number that a block of the window has below.
