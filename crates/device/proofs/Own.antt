@@ -12,7 +12,7 @@ use Rattle.host.specs.Waits.{silent, judged_wait, settled_by, settled}
 use Rattle.device.specs.Calls.{Call, by}
 use Rattle.transfer.specs.Segments.{span}
 use Rattle.device.specs.Device.{State, host_of, mail_of, fixed, asked, in_way, start, reach, answer, next}
-use Rattle.device.specs.Isolation.{Guards, Own, AtHome, KeepsAt, is_notice}
+use Rattle.device.specs.Isolation.{Guards, Own, KeepsAt, is_notice}
 use Rattle.device.proofs.Tests.{clash, one_of}
 use Rattle.device.proofs.Apart.{Grown}
 use Rattle.device.proofs.Served.{earned}
@@ -54,9 +54,6 @@ mail_other : (s : State) (c : Call) (h : ℕ) → h ≢ by c → mail_of (next s
 mail_other s c h n = mail_next s c h ∙ ap (settled (next s c).hosts h) (get_or-set_other s.mail (by c) h (posted_by s c) silent n)
 
 -- What it asks for in a call is its own, if it keeps to its units there.
-pub own_asked : (s : State) (h : ℕ) (c : Call) → KeepsAt s h c → ((host_of s h).locks.device ≡ true) ⊎ Own (host_of s h) (asked s c)
-own_asked s h c k = one_of k.own (λ t. inl t) (λ o. inr o.0)
-
 -- So its locks stay, and it stays at home.
 pub kept_at : (s : State) (c : Call) → by c < length s.hosts → Home (host_of s (by c)) → KeepsAt s (by c) c → Home (host_of (next s c) (by c)) × Like (host_of s (by c)) (host_of (next s c) (by c))
 kept_at s c l home k =
@@ -69,7 +66,7 @@ kept_at s c l home k =
     (subst (Grown (earned (in_way s c) (asked s c)) (host_of s (by c))) e (did_grown s c))
     (subst (Held (host_of s (by c))) e (did_held s c k.held))
     home
-    (own_asked s (by c) c k)
+    k.own
 
 -- A call of the host's own, on both sides.
 module _ (s t : State) (c : Call) (x : Host) (r : Alike (by c) x s t) (own : ((host_of s (by c)).locks.device ≡ true) ⊎ Own (host_of s (by c)) (asked s c)) where
@@ -134,9 +131,8 @@ module _ (s t : State) (c : Call) (x : Host) (r : Alike (by c) x s t) (own : ((h
 -- It keeps to its units on one side if on the other.
 pub keeps_across : (s t : State) (c : Call) (x : Host) → Alike (by c) x s t → KeepsAt t (by c) c → KeepsAt s (by c) c
 keeps_across s t c x r k =
-    let own = subst₂ (λ (y : Host) (o : Option Message). (y.locks.device ≡ true) ⊎ (Own y o × AtHome y)) (sym r.same) (sym (asked_alike s t c r.fixed r.same)) k.own in
-    let asks = one_of own (λ t. inl t) (λ o. inr o.0) in
-    record { own = own; held = λ g. k.held (gives_across s t c (λ n. answer_own s t c x r asks (inl n)) (asked_alike s t c r.fixed r.same) r.same g) }
+    let own = subst₂ (λ (y : Host) (o : Option Message). (y.locks.device ≡ true) ⊎ Own y o) (sym r.same) (sym (asked_alike s t c r.fixed r.same)) k.own in
+    record { own = own; held = λ g. k.held (gives_across s t c (λ n. answer_own s t c x r own (inl n)) (asked_alike s t c r.fixed r.same) r.same g) }
 
 -- A call of another's, on one side.
 pub other_step : (s t : State) (c : Call) (h : ℕ) (x : Host) → h ≢ by c → Alike h x s t → Alike h x (next s c) t

@@ -8,12 +8,12 @@ use Rattle.host.specs.declared.record.Host.{Host}
 use Rattle.host.specs.Hosts.{blank}
 use Rattle.device.specs.Calls.{Call, by}
 use Rattle.device.specs.Device.{State, host_of, answer, next, run}
-use Rattle.device.specs.Isolation.{Guards, Holds, KeepsAt, Keeps, by_host, by_others, by_host_but_notices, answers, is_notice, Isolated, IsolationFrom, Isolation}
+use Rattle.device.specs.Isolation.{Guards, Holds, KeepsAt, KeepsIn, by_host, by_others, by_host_but_notices, answers, is_notice, Isolated, IsolationFrom, Isolation}
 use Rattle.device.specs.Laws.{SideBySide, ApartnessFrom, Apartness}
 use Rattle.device.proofs.Tests.{clash, one_of}
 use Rattle.device.proofs.States.{Sound, sound_on, sound_run, map_run}
 use Rattle.device.proofs.Keeping.{Home, home_from, like_self}
-use Rattle.device.proofs.Own.{Alike, own_asked, own_step, answer_own, other_step, keeps_across}
+use Rattle.device.proofs.Own.{Alike, own_step, answer_own, other_step, keeps_across}
 use Rattle.device.proofs.Others.{Foreign, mine_step, theirs_step}
 
 module _ (h : ℕ) (x : Host) where
@@ -27,7 +27,7 @@ module _ (h : ℕ) (x : Host) where
       subst
       (λ (k : ℕ). Alike k x s t → KeepsAt s k c → Alike k x (next s c) (next t c) × (Heard c → answer s c ≡ answer t c))
       e
-      (λ r k. (own_step s t c x r (own_asked s (by c) c k) k, answer_own s t c x r (own_asked s (by c) c k)))
+      (λ r k. (own_step s t c x r k.own k, answer_own s t c x r k.own))
 
   mine_at : (s t : State) (c : Call) → by c ≡ h → Foreign h x s t → KeepsAt s h c → Foreign h x (next s c) t
   mine_at s t c e = subst (λ (k : ℕ). Foreign k x s t → KeepsAt s k c → Foreign k x (next s c) t) e (mine_step s t c x)
@@ -36,11 +36,11 @@ module _ (h : ℕ) (x : Host) where
   across_at s t c e = subst (λ (k : ℕ). Alike k x s t → KeepsAt t k c → KeepsAt s k c) e (keeps_across s t c x)
 
   -- Who keeps to its units alone keeps to them among the others.
-  keeps_among : (f : List Call) (s t : State) → Alike h x s t → Keeps h t (filter (by_host h) f) → Keeps h s f
+  keeps_among : (f : List Call) (s t : State) → Alike h x s t → KeepsIn h t (filter (by_host h) f) → KeepsIn h s f
   keeps_among [] s t r k = tt
   keeps_among (c ∷ f) s t r k = go (keeps_among f) (by_host h c) refl k
     where
-      go : ((s t : State) → Alike h x s t → Keeps h t (filter (by_host h) f) → Keeps h s f) → (b : Bool) → by_host h c ≡ b → Keeps h t (cond b (c ∷ filter (by_host h) f) (filter (by_host h) f)) → Keeps h s (c ∷ f)
+      go : ((s t : State) → Alike h x s t → KeepsIn h t (filter (by_host h) f) → KeepsIn h s f) → (b : Bool) → by_host h c ≡ b → KeepsIn h t (cond b (c ∷ filter (by_host h) f) (filter (by_host h) f)) → KeepsIn h s (c ∷ f)
       go ih true e k =
           let i = eqb-true (by c) h e in
           let a = across_at s t c i r (k.0 e) in
@@ -48,19 +48,19 @@ module _ (h : ℕ) (x : Host) where
       go ih false e k =
           ((λ d. clash (by_host h c) d e), ih (next s c) t (other_step s t c h x (λ d. eqb-false (by c) h e (sym d)) r) k)
 
-  own_run : (f : List Call) (s t : State) → Alike h x s t → Keeps h s f → Alike h x (run s f) (run t (filter (by_host h) f))
+  own_run : (f : List Call) (s t : State) → Alike h x s t → KeepsIn h s f → Alike h x (run s f) (run t (filter (by_host h) f))
   own_run [] s t r k = r
   own_run (c ∷ f) s t r k = go (own_run f) (by_host h c) refl
     where
-      go : ((s t : State) → Alike h x s t → Keeps h s f → Alike h x (run s f) (run t (filter (by_host h) f))) → (b : Bool) → by_host h c ≡ b → Alike h x (run (next s c) f) (run t (cond b (c ∷ filter (by_host h) f) (filter (by_host h) f)))
+      go : ((s t : State) → Alike h x s t → KeepsIn h s f → Alike h x (run s f) (run t (filter (by_host h) f))) → (b : Bool) → by_host h c ≡ b → Alike h x (run (next s c) f) (run t (cond b (c ∷ filter (by_host h) f) (filter (by_host h) f)))
       go ih true e = ih (next s c) (next t c) (own_at s t c (eqb-true (by c) h e) r (k.0 e)).0 k.1
       go ih false e = ih (next s c) t (other_step s t c h x (λ d. eqb-false (by c) h e (sym d)) r) k.1
 
-  answers_run : (p : Call → Bool) → ((c : Call) → p c ≡ true → (by_host h c ≡ true) × Heard c) → (f : List Call) (s t : State) → Alike h x s t → Keeps h s f → answers p s f ≡ answers p t (filter (by_host h) f)
+  answers_run : (p : Call → Bool) → ((c : Call) → p c ≡ true → (by_host h c ≡ true) × Heard c) → (f : List Call) (s t : State) → Alike h x s t → KeepsIn h s f → answers p s f ≡ answers p t (filter (by_host h) f)
   answers_run p only [] s t r k = refl
   answers_run p only (c ∷ f) s t r k = go (answers_run p only f) (by_host h c) (p c) refl refl
     where
-      go : ((s t : State) → Alike h x s t → Keeps h s f → answers p s f ≡ answers p t (filter (by_host h) f)) → (b q : Bool) → by_host h c ≡ b → p c ≡ q → cond q (answer s c ∷ answers p (next s c) f) (answers p (next s c) f) ≡ answers p t (cond b (c ∷ filter (by_host h) f) (filter (by_host h) f))
+      go : ((s t : State) → Alike h x s t → KeepsIn h s f → answers p s f ≡ answers p t (filter (by_host h) f)) → (b q : Bool) → by_host h c ≡ b → p c ≡ q → cond q (answer s c ∷ answers p (next s c) f) (answers p (next s c) f) ≡ answers p t (cond b (c ∷ filter (by_host h) f) (filter (by_host h) f))
       go ih true true e d =
           let o = own_at s t c (eqb-true (by c) h e) r (k.0 e) in
           let rest = ih (next s c) (next t c) o.0 k.1 in
@@ -72,11 +72,11 @@ module _ (h : ℕ) (x : Host) where
       go ih false true e d = clash (by_host h c) (only c d).0 e
       go ih false false e d = ih (next s c) t (other_step s t c h x (λ i. eqb-false (by c) h e (sym i)) r) k.1
 
-  others_run : (f : List Call) (s t : State) → Foreign h x s t → Keeps h s f → Foreign h x (run s f) (run t (filter (by_others h) f))
+  others_run : (f : List Call) (s t : State) → Foreign h x s t → KeepsIn h s f → Foreign h x (run s f) (run t (filter (by_others h) f))
   others_run [] s t r k = r
   others_run (c ∷ f) s t r k = go (others_run f) (by_host h c) refl
     where
-      go : ((s t : State) → Foreign h x s t → Keeps h s f → Foreign h x (run s f) (run t (filter (by_others h) f))) → (b : Bool) → by_host h c ≡ b → Foreign h x (run (next s c) f) (run t (cond (not b) (c ∷ filter (by_others h) f) (filter (by_others h) f)))
+      go : ((s t : State) → Foreign h x s t → KeepsIn h s f → Foreign h x (run s f) (run t (filter (by_others h) f))) → (b : Bool) → by_host h c ≡ b → Foreign h x (run (next s c) f) (run t (cond (not b) (c ∷ filter (by_others h) f) (filter (by_others h) f)))
       go ih true e = ih (next s c) t (mine_at s t c (eqb-true (by c) h e) r (k.0 e)) k.1
       go ih false e = ih (next s c) (next t c) (theirs_step s t c h x (eqb-false (by c) h e) r) k.1
 
@@ -118,7 +118,7 @@ module _ (s : State) (h : ℕ) (i : Sound s) (holds : Holds (host_of s h)) (home
     blocks = λ b _. refl;
   }
 
-  among : (f : List Call) → Keeps h s f → SideBySide h s f (filter (by_host h) f) (filter (by_others h) f)
+  among : (f : List Call) → KeepsIn h s f → SideBySide h s f (filter (by_host h) f) (filter (by_others h) f)
   among f k =
       let r = own_run h (host_of s h) f s s alike k in
       let o = others_run h (host_of s h) f s s foreign k in
@@ -131,10 +131,10 @@ module _ (s : State) (h : ℕ) (i : Sound s) (holds : Holds (host_of s h)) (home
         their_blocks = λ b q. o.blocks b (λ y. q (subst (λ (m : UnitMap). Guards m (host_of s h) b) (map_run s f) y));
       }
 
-  side_by_side : (f : List Call) → Keeps h s (filter (by_host h) f) → SideBySide h s f (filter (by_host h) f) (filter (by_others h) f)
+  side_by_side : (f : List Call) → KeepsIn h s (filter (by_host h) f) → SideBySide h s f (filter (by_host h) f) (filter (by_others h) f)
   side_by_side f k = among f (keeps_among h (host_of s h) f s s alike k)
 
-  isolated : (f g : List Call) → filter (by_host h) f ≡ filter (by_host h) g → Keeps h s f → Keeps h s g → Isolated h s f g
+  isolated : (f g : List Call) → filter (by_host h) f ≡ filter (by_host h) g → KeepsIn h s f → KeepsIn h s g → Isolated h s f g
   isolated f g e kf kg =
       let a = among f kf in
       let b = among g kg in
@@ -149,12 +149,12 @@ module _ (s : State) (h : ℕ) (i : Sound s) (holds : Holds (host_of s h)) (home
 
 -- From any sound state.
 pub apartness_from : (start : State) → Sound start → ApartnessFrom start
-apartness_from start i before f h holds home k =
-    side_by_side (run start before) h (sound_run start before i) holds (home_from (host_of (run start before) h) holds home) f k
+apartness_from start i before f h holds k =
+    side_by_side (run start before) h (sound_run start before i) holds (home_from (host_of (run start before) h) holds k.at_home) f k.in_calls
 
 pub isolation_from : (start : State) → Sound start → IsolationFrom start
-isolation_from start i before f g h holds home e kf kg =
-    isolated (run start before) h (sound_run start before i) holds (home_from (host_of (run start before) h) holds home) f g e kf kg
+isolation_from start i before f g h holds e kf kg =
+    isolated (run start before) h (sound_run start before i) holds (home_from (host_of (run start before) h) holds kf.at_home) f g e kf.in_calls kg.in_calls
 
 -- From power on.
 pub apartness : Apartness

@@ -74,7 +74,7 @@ AtHome x = (u : ℕ) → on x u ≡ true → locked x u ≡ true
 
 -- In one call it keeps to its units, unless it holds the device's lock, and gives up no lock.
 pub record KeepsAt (s : State) (h : ℕ) (c : Call) : Type 0 where
-  pub own : ((host_of s h).locks.device ≡ true) ⊎ (Own (host_of s h) (asked s c) × AtHome (host_of s h))
+  pub own : ((host_of s h).locks.device ≡ true) ⊎ Own (host_of s h) (asked s c)
   pub held : GivesUp s c → ⊥
 
 abbrev pub by_host : ℕ → Call → Bool
@@ -84,9 +84,15 @@ abbrev pub by_others : ℕ → Call → Bool
 by_others h c = not (by c == h)
 
 -- So it does in each of its calls of a continuation.
-abbrev pub Keeps : ℕ → State → List Call → Type 0
-Keeps h s [] = Unit {0}
-Keeps h s (c ∷ cs) = (by_host h c ≡ true → KeepsAt s h c) × Keeps h (next s c) cs
+abbrev pub KeepsIn : ℕ → State → List Call → Type 0
+KeepsIn h s [] = Unit {0}
+KeepsIn h s (c ∷ cs) = (by_host h c ≡ true → KeepsAt s h c) × KeepsIn h (next s c) cs
+
+-- From s on, in a continuation f, it gives up no lock and, unless it holds the device's lock, keeps to its units. Its open transaction is on one
+-- of them where f begins; while its calls keep to them, one that it opens later is too.
+pub record Keeps (h : ℕ) (s : State) (f : List Call) : Type 0 where
+  pub at_home : ((host_of s h).locks.device ≡ true) ⊎ AtHome (host_of s h)
+  pub in_calls : KeepsIn h s f
 
 -- What is answered, with the buffer as it is left, to the calls that pass a test.
 abbrev pub answers : (Call → Bool) → State → List Call → List Answer
@@ -117,15 +123,14 @@ pub record Isolated (h : ℕ) (s : State) (f g : List Call) : Type 0 where
   pub outside : (b : ℕ) → (Guards s.map (host_of s h) b → ⊥) → slice_get (run s f).blocks b ≡ slice_get (run s (filter (by_others h) f)).blocks b
   pub outside_too : (b : ℕ) → (Guards s.map (host_of s h) b → ⊥) → slice_get (run s g).blocks b ≡ slice_get (run s (filter (by_others h) g)).blocks b
 
--- ISOLATION, from a device in state s: after any list of calls, if a host then holds the device's lock, or some unit's lock with no transaction
--- open on a unit that it has not locked, take any two continuations in which its own calls are the same in the same order, and in both of which it
--- gives up no lock and, lacking the device's lock, keeps to its units. Then it is isolated in them.
+-- ISOLATION, from a device in state s: after any list of calls, if a host then holds the device's lock or some unit's lock, take any two
+-- continuations in which its own calls are the same in the same order, and in both of which it gives up no lock and, lacking the device's lock,
+-- keeps to its units. Then it is isolated in them.
 abbrev pub IsolationFrom : State → Type 0
 IsolationFrom start =
     (before f g : List Call) (h : ℕ) →
     let s = run start before in
     Holds (host_of s h) →
-    ((host_of s h).locks.device ≡ true) ⊎ AtHome (host_of s h) →
     filter (by_host h) f ≡ filter (by_host h) g →
     Keeps h s f →
     Keeps h s g →

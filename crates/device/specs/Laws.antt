@@ -1,5 +1,5 @@
 -- Laws of every state that a device reaches, and isolation in its stronger form.
-use Rattle.std.specs.Prelude.{◌≡◌, ℕ, true, false, ◌≢◌, ◌⊎◌, List, Some, None, filter}
+use Rattle.std.specs.Prelude.{◌≡◌, ℕ, true, false, ◌≢◌, List, Some, None, filter}
 use Rattle.std.specs.List.{slice_get}
 use Rattle.store.specs.Blocks.{Block}
 use Rattle.flex.specs.declared.unit_map.UnitMap.{UnitMap}
@@ -8,7 +8,7 @@ use Rattle.host.specs.declared.want.Want.{Want}
 use Rattle.host.specs.Hosts.{locked, on, stands, another}
 use Rattle.device.specs.Calls.{Call}
 use Rattle.device.specs.Device.{State, host_of, mail_of, run, power_on}
-use Rattle.device.specs.Isolation.{Guards, Holds, AtHome, Keeps, answers, by_host, by_others, by_host_but_notices}
+use Rattle.device.specs.Isolation.{Guards, Holds, Keeps, answers, by_host, by_others, by_host_but_notices}
 
 -- ---- Exclusion.
 
@@ -58,9 +58,9 @@ pub record SideBySide (h : ℕ) (s : State) (f mine theirs : List Call) : Type 0
   pub their_records : (g : ℕ) → g ≢ h → host_of (run s f) g ≡ host_of (run s theirs) g
   pub their_blocks : (b : ℕ) → (Guards s.map (host_of s h) b → ⊥) → slice_get (run s f).blocks b ≡ slice_get (run s theirs).blocks b
 
--- APARTNESS, from a device in state s: after any list of calls, if a host then holds the device's lock, or some unit's lock with no transaction
--- open on a unit that it has not locked, take any continuation of which its own calls, made alone, give up no lock and, lacking the device's
--- lock, keep to its units. Then the continuation is its own calls and the others' calls, side by side.
+-- APARTNESS, from a device in state s: after any list of calls, if a host then holds the device's lock or some unit's lock, take any continuation
+-- of which its own calls, made alone, give up no lock and, lacking the device's lock, keep to its units. Then the continuation is its own calls
+-- and the others' calls, side by side.
 abbrev pub ApartnessFrom : State → Type 0
 ApartnessFrom start =
     (before f : List Call) (h : ℕ) →
@@ -68,7 +68,6 @@ ApartnessFrom start =
     let mine = filter (by_host h) f in
     let theirs = filter (by_others h) f in
     Holds (host_of s h) →
-    ((host_of s h).locks.device ≡ true) ⊎ AtHome (host_of s h) →
     Keeps h s mine →
     SideBySide h s f mine theirs
 

@@ -1,5 +1,5 @@
 -- A run that meets what the isolation theorem asks for: host 0 has unit 0 locked and writes there, host 1 writes to unit 1 and asks twice for unit 0.
-use Rattle.std.specs.Prelude.{◌≡◌, ℕ, ◌+◌, true, ◌⊎◌, List, [], ◌∷◌, replicate, Some, filter, refl}
+use Rattle.std.specs.Prelude.{◌≡◌, ℕ, ◌+◌, List, [], ◌∷◌, replicate, Some, filter, refl}
 use Rattle.std.proofs.Common.{lit≤}
 use Rattle.std.specs.List.{slice_get}
 use Rattle.store.specs.Blocks.{Block, open_block}
@@ -8,7 +8,7 @@ use Rattle.flex.specs.declared.unit_map.UnitMap.{UnitMap}
 use Rattle.flex.specs.Maps.{padded}
 use Rattle.device.specs.Calls.{Call, command, segment, report, clear}
 use Rattle.device.specs.Device.{State, host_of, run, power_on}
-use Rattle.device.specs.Isolation.{Holds, AtHome, Keeps, by_host}
+use Rattle.device.specs.Isolation.{Holds, Keeps, by_host}
 
 -- Two units of four blocks each.
 abbrev pub unit_from : ℕ → DiscUnit
@@ -64,7 +64,6 @@ by_itself = write_one 0 0 ∷ send 0 7 ∷ ask_report 0 ∷ []
 -- All that the theorem asks for holds, and in the first continuation both hosts' blocks are written.
 pub record Sampled : Type 0 where
   pub holds : Holds (host_of locked_state 0)
-  pub at_home : ((host_of locked_state 0).locks.device ≡ true) ⊎ AtHome (host_of locked_state 0)
   pub same : filter (by_host 0) among_others ≡ filter (by_host 0) by_itself
   pub keeps : Keeps 0 locked_state among_others
   pub keeps_too : Keeps 0 locked_state by_itself
