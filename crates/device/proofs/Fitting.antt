@@ -13,7 +13,7 @@ use Rattle.host.specs.declared.progress.Progress.{Progress}
 use Rattle.host.specs.declared.record.Host.{Host}
 use Rattle.host.specs.declared.transaction.Transaction.{Transaction}
 use Rattle.host.specs.Hosts.{unit_of, is_unit, works_on}
-use Rattle.host.specs.Messages.{blocks_of, unit_size, moves, moving, opened, accepted as accepted_by}
+use Rattle.host.specs.Messages.{blocks_of, unit_size, describes, moves, moving, opened, accepted as accepted_by}
 use Rattle.host.specs.Progress.{advanced}
 use Rattle.device.specs.Calls.{Call}
 use Rattle.transfer.specs.Segments.{first_in, start_of, reach_of, moved_by_command}
@@ -22,10 +22,11 @@ use Rattle.device.specs.Device.{Fixed, Served, does, serve}
 use Rattle.device.specs.Isolation.{In}
 use Rattle.device.proofs.Served.{does_ways, refused_transaction}
 
--- The blocks that a transaction has left end in its unit, and if there are any, it is on that unit.
+-- The blocks that a transaction has left end in its unit, and if there are any, it is on that unit; an Extended Describe has none.
 pub record Inside (map : UnitMap) (t : Transaction) : Type 0 where
   pub ends : t.at + t.left ≤ unit_size map t.unit
   pub on_it : 0 < t.left → is_unit (unit_of t.command t.unit) t.unit ≡ true
+  pub quiet : describes t.command ≡ true → t.left ≡ 0
 
 abbrev pub Fits : UnitMap → Option Transaction → Type 0
 Fits map None = Unit {0}
@@ -43,11 +44,14 @@ opened_ends map m = grind (arith, nat_tests, moving_ends)
 opened_on : (map : UnitMap) (m : Message) → let t = opened map m in 0 < t.left → is_unit (unit_of t.command t.unit) t.unit ≡ true
 opened_on map m = grind (arith, nat_tests, moves_on)
 
+opened_quiet : (map : UnitMap) (m : Message) → describes (opened map m).command ≡ true → (opened map m).left ≡ 0
+opened_quiet map m = grind (arith, nat_tests)
+
 opened_fits : (map : UnitMap) (m : Message) → Fits map (Some (opened map m))
-opened_fits map m = record { ends = opened_ends map m; on_it = opened_on map m }
+opened_fits map m = record { ends = opened_ends map m; on_it = opened_on map m; quiet = opened_quiet map m }
 
 advanced_fits : (map : UnitMap) (t : Transaction) (p : Progress) → Fits map (Some t) → Fits map (Some (advanced t p))
-advanced_fits map t p k = record { ends = omega (arith, k.ends); on_it = λ l. k.on_it (omega arith) }
+advanced_fits map t p k = record { ends = omega (arith, k.ends); on_it = λ l. k.on_it (omega arith); quiet = λ d. omega (arith, k.quiet d) }
 
 accepted_fits : (map : UnitMap) (m : Message) (x : Host) → Fits map (accepted_by map m x).transaction
 unfolding accepted_by
@@ -59,7 +63,7 @@ module _ (f : Fixed) (o : Option Message) (x : Host) (m : Mail) (os : List (Opti
     stays = λ _. k;
     refuses = λ _ s. subst (Fits f.map) (sym (refused_transaction s x)) k;
     accepts = λ _ _ _ n _ _. accepted_fits f.map n x;
-    moves = λ t e _ b buffer _. advanced_fits f.map t (moved_by_command t.command t b os buffer).progress (subst (Fits f.map) e k);
+    moves = λ t e _ b _ buffer _. advanced_fits f.map t (moved_by_command t.command t b os buffer).progress (subst (Fits f.map) e k);
     ends = λ _. tt;
     clears = λ _ _. tt;
   }) m
@@ -88,7 +92,7 @@ module _ (f : Fixed) (o : Option Message) (x : Host) (m : Mail) (os : List (Opti
     stays = λ _. omega arith;
     refuses = λ _ _. omega arith;
     accepts = λ _ _ _ _ _ _. omega arith;
-    moves = λ t _ _ b buffer _. moved_short t.command t b os buffer;
+    moves = λ t _ _ b _ buffer _. moved_short t.command t b os buffer;
     ends = λ _. omega arith;
     clears = λ _ _. omega arith;
   }) m

@@ -84,7 +84,7 @@ module _ (f : Fixed) (o : Option Message) (x : Host) (m : Mail) (os : List (Opti
     stays = λ _ _. same_held x x refl;
     refuses = λ _ s _. same_held x (refused s x) (refused_locks s x);
     accepts = λ h bytes e k i a n. accepted_held f k x (λ d. n (subst₂ (λ (r : Option Message) (q : Call). Gives (accepted a) r x q) (sym i) (sym e) ((a, refl), d)));
-    moves = λ t _ _ b buffer _ _. same_held x (moved_by t (moved_by_command t.command t b os buffer).progress x) refl;
+    moves = λ t _ _ b _ buffer _ _. same_held x (moved_by t (moved_by_command t.command t b os buffer).progress x) refl;
     ends = λ _ _. same_held x (ended x) refl;
     clears = λ h e n. cleared_held x (λ l. n (subst (Gives done o x) (sym e) (refl, l)));
   }) m

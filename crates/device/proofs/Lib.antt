@@ -21,3 +21,4 @@ pub mod Transfers
 pub mod Sample
 pub mod Small
 pub mod NoHost
+pub mod Describing

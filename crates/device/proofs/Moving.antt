@@ -11,7 +11,7 @@ use Rattle.host.specs.declared.transaction.Phase.TheVariants as phases
 use Rattle.host.specs.declared.transaction.Transaction.{Transaction}
 use Rattle.host.specs.Hosts.{blank, host_at}
 use Rattle.host.specs.Waits.{mail_at, silent}
-use Rattle.transfer.specs.Segments.{start_of, laid, Moved, moved_over, refusal_of, progress_by, buffer_by, blocks_by}
+use Rattle.transfer.specs.Segments.{start_of, laid, Moved, message_of, executed_over, refusal_of, progress_by, buffer_by, blocks_by}
 use Rattle.device.specs.declared.controller.Controller.{Controller}
 use Rattle.device.specs.declared.ticket.ExecutionTicket.{ExecutionTicket}
 use Rattle.device.specs.declared.ticket.Pass.{Pass}
@@ -52,11 +52,11 @@ module _ (was c : Controller) (left : c ≡ was) (bs : List Block) (k : Executio
   here : ◌≡◌ {A = Option (Known × Transaction)} (Some (known, t)) (borne c (pass_on (tickets.Execution k)))
   here = borne_by ∙ ap (λ (d : Controller). borne d pass) (sym left) ∙ ap (borne c) bears
 
-  abbrev why : Option Status
-  why = refusal_of c.map t buffer
+  abbrev why : ℕ → Option Status
+  why h = refusal_of c.map t (message_of c.map h t) buffer
 
-  abbrev comes_to : Moved
-  comes_to = moved_over c.map bs t buffer
+  abbrev comes_to : ℕ → Moved
+  comes_to h = executed_over c.map bs h t buffer
 
   found : (known ≡ kept c k.host) × (fitting c.number k.device phases.Execution (host_at c.hosts k.host).transaction ≡ Some t)
   found = fitted_is (kept c k.host) _ known t (there_is (nat_lt k.host 8) _ (known, t) here)
@@ -64,31 +64,37 @@ module _ (was c : Controller) (left : c ≡ was) (bs : List Block) (k : Executio
   opened : (host_at c.hosts k.host).transaction ≡ Some t
   opened = fitting_is c.number k.device phases.Execution (host_at c.hosts k.host).transaction t found.1
 
-  moved_on : why ≡ None → (moved (gone_on c k.host known t comes_to.progress).0 comes_to.buffer, state_of (gone_on c k.host known t comes_to.progress).1 (laid bs (start_of c.map (Some t)) comes_to.put)) ≡ after (state_of c bs) (segment k buffer)
+  moved_on : why k.host ≡ None → (moved (gone_on c k.host known t (comes_to k.host).progress).0 (comes_to k.host).buffer, state_of (gone_on c k.host known t (comes_to k.host).progress).1 (laid bs (start_of c.map (Some t)) (comes_to k.host).put)) ≡ after (state_of c bs) (segment k buffer)
   moved_on y = rw found.0 (rw (found.1, segmented_by, y, opened) refl)
 
-  stays : (s : Status) → why ≡ Some s → (returned s (tickets.Execution k) buffer, state_of (with_waits c) bs) ≡ after (state_of c bs) (segment k buffer)
+  stays : (s : Status) → why k.host ≡ Some s → (returned s (tickets.Execution k) buffer, state_of (with_waits c) bs) ≡ after (state_of c bs) (segment k buffer)
   stays s y = rw (found.1, segmented_by, y) (rw (set-get_or c.hosts k.host blank, set-get_or c.mail k.host silent) refl)
 
   as_it_was : after (state_of c bs) (segment k buffer) ≡ after (state_of was bs) (segment k buffer)
   as_it_was = ap (λ (d : Controller). after (state_of d bs) (segment k buffer)) left
 
   -- From what each step of the call leaves; `h` is the host that was found.
-  pub segment_moved_on : (h : ℕ) → h ≡ pass.host → (p : Progress) (bytes : List ℕ) (blocks : List Block) →
-      Ok p ≡ progress_by why comes_to → bytes ≡ buffer_by why comes_to buffer → blocks ≡ blocks_by why comes_to bs (start_of c.map (Some t)) →
-      (moved (gone_on c h known t p).0 bytes, state_of (gone_on c h known t p).1 blocks) ≡ after (state_of was bs) (segment k buffer)
-  segment_moved_on h eh p bytes blocks ep eb es =
-      let m = moved_is why comes_to p ep in
-      let b : bytes ≡ comes_to.buffer = eb ∙ ap (λ (r : Option Status). buffer_by r comes_to buffer) m.0 in
-      let s : blocks ≡ laid bs (start_of c.map (Some t)) comes_to.put = es ∙ ap (λ (r : Option Status). blocks_by r comes_to bs (start_of c.map (Some t))) m.0 in
-      let host : h ≡ k.host = eh ∙ ap (λ (q : Pass). q.host) bears in
-      rw (host, m.1, b, s) (moved_on m.0) ∙ as_it_was
+  module _ (h : ℕ) (eh : h ≡ pass.host) where
+    host : h ≡ k.host
+    host = eh ∙ ap (λ (q : Pass). q.host) bears
 
-  pub segment_refused : (s : Status) (bytes : List ℕ) (blocks : List Block) →
-      Err s ≡ progress_by why comes_to → bytes ≡ buffer_by why comes_to buffer → blocks ≡ blocks_by why comes_to bs (start_of c.map (Some t)) →
-      (returned s (tickets.Execution k) bytes, state_of (with_waits c) blocks) ≡ after (state_of was bs) (segment k buffer)
-  segment_refused s bytes blocks ep eb es =
-      let m = refused_is why comes_to s ep in
-      let b : bytes ≡ buffer = eb ∙ ap (λ (r : Option Status). buffer_by r comes_to buffer) m in
-      let l : blocks ≡ bs = es ∙ ap (λ (r : Option Status). blocks_by r comes_to bs (start_of c.map (Some t))) m in
-      rw (b, l) (stays s m) ∙ as_it_was
+    pub segment_moved_on : (p : Progress) (bytes : List ℕ) (blocks : List Block) →
+        Ok p ≡ progress_by (why h) (comes_to h) → bytes ≡ buffer_by (why h) (comes_to h) buffer → blocks ≡ blocks_by (why h) (comes_to h) bs (start_of c.map (Some t)) →
+        (moved (gone_on c h known t p).0 bytes, state_of (gone_on c h known t p).1 blocks) ≡ after (state_of was bs) (segment k buffer)
+    segment_moved_on p bytes blocks ep eb es =
+        let own = comes_to k.host in
+        let m = moved_is (why k.host) own p (ep ∙ ap (λ (i : ℕ). progress_by (why i) (comes_to i)) host) in
+        let b : bytes ≡ own.buffer = eb ∙ ap (λ (i : ℕ). buffer_by (why i) (comes_to i) buffer) host ∙ ap (λ (r : Option Status). buffer_by r own buffer) m.0 in
+        let s : blocks ≡ laid bs (start_of c.map (Some t)) own.put =
+        es ∙ ap (λ (i : ℕ). blocks_by (why i) (comes_to i) bs (start_of c.map (Some t))) host ∙ ap (λ (r : Option Status). blocks_by r own bs (start_of c.map (Some t))) m.0 in
+        rw (host, m.1, b, s) (moved_on m.0) ∙ as_it_was
+
+    pub segment_refused : (s : Status) (bytes : List ℕ) (blocks : List Block) →
+        Err s ≡ progress_by (why h) (comes_to h) → bytes ≡ buffer_by (why h) (comes_to h) buffer → blocks ≡ blocks_by (why h) (comes_to h) bs (start_of c.map (Some t)) →
+        (returned s (tickets.Execution k) bytes, state_of (with_waits c) blocks) ≡ after (state_of was bs) (segment k buffer)
+    segment_refused s bytes blocks ep eb es =
+        let own = comes_to k.host in
+        let m = refused_is (why k.host) own s (ep ∙ ap (λ (i : ℕ). progress_by (why i) (comes_to i)) host) in
+        let b : bytes ≡ buffer = eb ∙ ap (λ (i : ℕ). buffer_by (why i) (comes_to i) buffer) host ∙ ap (λ (r : Option Status). buffer_by r own buffer) m in
+        let l : blocks ≡ bs = es ∙ ap (λ (i : ℕ). blocks_by (why i) (comes_to i) bs (start_of c.map (Some t))) host ∙ ap (λ (r : Option Status). blocks_by r own bs (start_of c.map (Some t))) m in
+        rw (b, l) (stays s m) ∙ as_it_was

@@ -13,7 +13,7 @@ use Rattle.device.specs.declared.ticket.ExecutionTicket.{ExecutionTicket}
 use Rattle.device.specs.declared.ticket.ReportTicket.{ReportTicket}
 use Rattle.device.specs.declared.ticket.Ticket.{Ticket}
 use Rattle.device.specs.Calls.{Call, command, segment, report, cancel, clear, notice, fault, by, Answer, accepted, moved, reported, done, noticed, faulted, refusal, returned}
-use Rattle.transfer.specs.Segments.{holds_segment, laid}
+use Rattle.transfer.specs.Segments.{message_of, holds_segment, laid}
 use Rattle.device.specs.Device.{State, host_of, mail_of, Fixed, fixed, asked, in_way, Served, fitting, executable, number_on, phase_on, segmented, reported_on, cancelled, serve, start, answer, next, run}
 use Rattle.device.specs.Refusals.{ticket_given, buffer_given, SameButAddress, Leaves, RefusalsFrom}
 use Rattle.device.proofs.Steps.{did, content, answer_is, host_next}
@@ -49,7 +49,7 @@ module _ (f : Fixed) (x : Host) (m : Mail) (os : List (Option Block)) where
 
   segment_kept : (k : ExecutionTicket) (buffer : List ℕ) (r : Option Transaction) → Kept (segment k buffer) x (segmented f r x os k buffer)
   segment_kept k buffer None = record { kept = (refl, refl, refl, refl) }
-  segment_kept k buffer (Some t) = choose (segment k buffer) (holds_segment t buffer) (record { kept = tt }) (record { kept = (refl, refl, refl, refl) })
+  segment_kept k buffer (Some t) = choose (segment k buffer) (holds_segment t (message_of f.map k.host t) buffer) (record { kept = tt }) (record { kept = (refl, refl, refl, refl) })
 
   report_kept : (k : ReportTicket) (buffer : List ℕ) (r : Option Transaction) → Kept (report k buffer) x (reported_on r x k buffer)
   report_kept k buffer None = record { kept = (refl, refl, refl, refl) }

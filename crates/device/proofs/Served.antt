@@ -21,7 +21,7 @@ use Rattle.device.specs.declared.ticket.ExecutionTicket.{ExecutionTicket}
 use Rattle.device.specs.declared.ticket.ReportTicket.{ReportTicket}
 use Rattle.device.specs.declared.ticket.Ticket.{Ticket}
 use Rattle.device.specs.Calls.{Call, command, segment, report, cancel, clear, notice, fault, Answer, accepted, done}
-use Rattle.transfer.specs.Segments.{moved_by_command, refusal_of}
+use Rattle.transfer.specs.Segments.{moved_by_command, message_of, told, refusal_of}
 use Rattle.device.specs.Device.{Fixed, Served, says, is_phase, fitting, number_on, phase_on, segment_moved, executable, segmented, reported_on, cancelled, does, serve}
 use Rattle.device.proofs.Segmented.{segment_by, segmented_by}
 use Rattle.device.proofs.Tests.{clash, getD_set_cases, of_row}
@@ -34,7 +34,7 @@ module _ (f : Fixed) (o : Option Message) (x : Host) (os : List (Option Block)) 
     pub stays : (a : Answer) → P (says a x)
     pub refuses : (a : Answer) (s : Status) → P (says a (refused s x))
     pub accepts : (h : ℕ) (bytes : List ℕ) → c ≡ command h bytes → (m : Message) → o ≡ Some m → (k : Ticket) → P (says (accepted k) (accepted_by f.map m x))
-    pub moves : (t : Transaction) → x.transaction ≡ Some t → (h b : ℕ) (buffer : List ℕ) → refusal_of f.map t buffer ≡ None → P (segment_moved f x t h (moved_by_command t.command t b os buffer))
+    pub moves : (t : Transaction) → x.transaction ≡ Some t → (h b : ℕ) (message buffer : List ℕ) → refusal_of f.map t message buffer ≡ None → P (segment_moved f x t h (told message (moved_by_command t.command t b os buffer)))
     pub ends : (a : Answer) → P (says a (ended x))
     pub clears : (h : ℕ) → c ≡ clear h → P (says done cleared)
 
@@ -52,12 +52,12 @@ module _ (f : Fixed) (o : Option Message) (x : Host) (os : List (Option Block)) 
     segment_ways k buffer None e = w.stays _
     segment_ways k buffer (Some t) e = by_fit (eqb k.device f.number && is_phase phases.Execution t.phase)
       where
-        by_refusal : (r : Option Status) → refusal_of f.map t buffer ≡ r → P (segment_by r f x t os k buffer)
-        by_refusal None i = w.moves t e _ _ _ i
+        by_refusal : (r : Option Status) → refusal_of f.map t (message_of f.map k.host t) buffer ≡ r → P (segment_by r f x t os k buffer)
+        by_refusal None i = w.moves t e _ _ _ _ i
         by_refusal (Some s) i = w.stays _
 
         by_fit : (b : Bool) → P (segmented f (executable f.map (cond b (Some t) None)) x os k buffer)
-        by_fit true = subst P (sym (segmented_by f x t os k buffer)) (by_refusal (refusal_of f.map t buffer) refl)
+        by_fit true = subst P (sym (segmented_by f x t os k buffer)) (by_refusal (refusal_of f.map t (message_of f.map k.host t) buffer) refl)
         by_fit false = w.stays _
 
     report_ways : (k : ReportTicket) (buffer : List ℕ) (r : Option Transaction) → P (reported_on r x k buffer)
@@ -160,7 +160,7 @@ module _ (f : Fixed) (o : Option Message) (x : Host) (m : Mail) (os : List (Opti
     stays = λ _. same_grown (asking o) x x refl refl;
     refuses = λ _ s. same_grown (asking o) x (refused s x) (refused_locks s x) (refused_transaction s x);
     accepts = λ _ _ _ k e _. rw e (accepted_grown f.map k x);
-    moves = λ t e _ b buffer _. moved_grown (asking o) x t (moved_by_command t.command t b os buffer).progress e;
+    moves = λ t e _ b _ buffer _. moved_grown (asking o) x t (moved_by_command t.command t b os buffer).progress e;
     ends = λ _. kept_grown (asking o) x (ended x) refl (λ u t. clash false t refl) (λ t. clash false t refl);
     clears = λ _ _. cleared_grown (asking o) x;
   }) m

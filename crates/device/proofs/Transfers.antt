@@ -1,7 +1,7 @@
 -- Whole transfers: one segment after the other, and all of them at once.
 use Rattle.std.proofs.Common.{◌≡◌, ℕ, zero, suc, ◌+◌, ◌-◌, ◌*◌, ◌^◌, ◌<◌, Bool, true, false, cond, ◌&&◌, eqb, ◌⊎◌, List, [], ◌∷◌, ◌++◌, length, take, is_some, IfSome, Some, None, Option, sym, refl, ap, ◌∙◌, subst, ap₂, add-zero, zero-add, arith}
 use Rattle.std.proofs.lemmas.List.{get_or_past}
-use Rattle.std.proofs.lemmas.Bool.{cases_lt, leb-true, le-leb}
+use Rattle.std.proofs.lemmas.Bool.{cond-false, cases_lt, leb-true, le-leb}
 use Rattle.std.proofs.lemmas.Bool.Decides.{nat_tests}
 use Rattle.store.specs.Blocks.{Block}
 use Rattle.flex.specs.declared.status.Status.{Status}
@@ -14,9 +14,9 @@ use Rattle.host.specs.declared.record.Host.{Host}
 use Rattle.host.specs.declared.transaction.Phase.TheVariants as phases
 use Rattle.host.specs.declared.transaction.Transaction.{Transaction}
 use Rattle.host.specs.Hosts.{blank}
-use Rattle.host.specs.Messages.{blocks_of, unit_size}
+use Rattle.host.specs.Messages.{blocks_of, unit_size, describes}
 use Rattle.host.specs.Progress.{lies_in, segment_of, left_after, advanced, first_fault, address_tried, moved_by}
-use Rattle.transfer.specs.Segments.{first_of, start_of, span, laid, Moved, untried, moved_by_command, moved_over, refusal_of}
+use Rattle.transfer.specs.Segments.{first_of, start_of, span, laid, Moved, untried, moved_by_command, moved_over, message_of, told, refusal_of}
 use Rattle.transfer.proofs.Cutting.{first_none, first_of_three}
 use Rattle.transfer.proofs.EachBlock.{Wholes, bytes_long}
 use Rattle.transfer.proofs.Joining.{Joined, moved_joined}
@@ -60,20 +60,23 @@ address_twice old at n i j o = grind (arith, nat_tests)
 -- ---- One segment that is moved.
 
 module _ (s : State) (k : ExecutionTicket) (buffer : List ℕ) (t : Transaction) (now : (host_of s k.host).transaction ≡ Some t) where
-  abbrev c : Call
+  abbrev pub c : Call
   c = segment k buffer
 
-  abbrev x : Host
+  abbrev pub x : Host
   x = host_of s k.host
 
-  abbrev b : ℕ
+  abbrev pub b : ℕ
   b = start_of s.map (Some t)
 
   abbrev os : List (Option Block)
   os = span s.blocks b (segment_of t)
 
-  abbrev one : Moved
+  abbrev pub one : Moved
   one = moved_over s.map s.blocks t buffer
+
+  abbrev pub message : List ℕ
+  message = message_of s.map k.host t
 
   abbrev fit : Bool
   fit = eqb k.device s.number && is_phase phases.Execution t.phase
@@ -82,34 +85,34 @@ module _ (s : State) (k : ExecutionTicket) (buffer : List ℕ) (t : Transaction)
   unfolding did
   did_is = rw now refl
 
-  by_refusal : (r : Option Status) → refusal_of s.map t buffer ≡ r → IsMoved (segment_by r (fixed s) x t os k buffer).answer → (segment_by r (fixed s) x t os k buffer ≡ segment_moved (fixed s) x t k.host one) × (refusal_of s.map t buffer ≡ None)
+  by_refusal : (r : Option Status) → refusal_of s.map t message buffer ≡ r → IsMoved (segment_by r (fixed s) x t os k buffer).answer → (segment_by r (fixed s) x t os k buffer ≡ segment_moved (fixed s) x t k.host (told message one)) × (refusal_of s.map t message buffer ≡ None)
   by_refusal None e m = (refl, e)
   by_refusal (Some u) e m = absurd m
 
-  by_fit : (q : Bool) → IsMoved (segmented (fixed s) (executable s.map (cond q (Some t) None)) x os k buffer).answer → (segmented (fixed s) (executable s.map (cond q (Some t) None)) x os k buffer ≡ segment_moved (fixed s) x t k.host one) × (refusal_of s.map t buffer ≡ None)
+  by_fit : (q : Bool) → IsMoved (segmented (fixed s) (executable s.map (cond q (Some t) None)) x os k buffer).answer → (segmented (fixed s) (executable s.map (cond q (Some t) None)) x os k buffer ≡ segment_moved (fixed s) x t k.host (told message one)) × (refusal_of s.map t message buffer ≡ None)
   by_fit true m =
       let e = segmented_by (fixed s) x t os k buffer in
-      let p = by_refusal (refusal_of s.map t buffer) refl (subst IsMoved (ap (λ (d : Served). d.answer) e) m) in
+      let p = by_refusal (refusal_of s.map t message buffer) refl (subst IsMoved (ap (λ (d : Served). d.answer) e) m) in
       (e ∙ p.0, p.1)
   by_fit false m = absurd m
 
   module _ (m : IsMoved (answer s c)) where
-    moved_did : (did s c ≡ segment_moved (fixed s) x t k.host one) × (refusal_of s.map t buffer ≡ None)
+    moved_did : (did s c ≡ segment_moved (fixed s) x t k.host (told message one)) × (refusal_of s.map t message buffer ≡ None)
     moved_did =
         let q = by_fit fit (subst IsMoved (answer_is s c ∙ ap (λ (d : Served). d.answer) did_is) m) in
         (did_is ∙ q.0, q.1)
 
-    answer_moved : answer s c ≡ moved (ticket_for s.number k.host (advanced t one.progress).phase) one.buffer
+    pub answer_moved : answer s c ≡ moved (ticket_for s.number k.host (advanced t one.progress).phase) (told message one).buffer
     answer_moved = answer_is s c ∙ ap (λ (d : Served). d.answer) moved_did.0
 
-    host_moved : host_of (next s c) k.host ≡ moved_by t one.progress x
+    pub host_moved : host_of (next s c) k.host ≡ moved_by t one.progress x
     host_moved = host_own s c (open_here s k.host t now) ∙ ap (λ (d : Served). d.host) moved_did.0
 
-    blocks_moved : (next s c).blocks ≡ laid s.blocks b one.put
+    pub blocks_moved : (next s c).blocks ≡ laid s.blocks b one.put
     unfolding next did
     blocks_moved = ap₂ (λ (o : Option Transaction) (d : Served). laid s.blocks (start_of s.map o) d.put) now moved_did.0
 
-    activity_moved : (next s c).activity ≡ counted s.activity one.progress.tried
+    pub activity_moved : (next s c).activity ≡ counted s.activity one.progress.tried
     unfolding next did
     activity_moved = ap (λ (d : Served). counted s.activity d.tried) moved_did.0
 
@@ -126,7 +129,7 @@ module _ (s : State) (k : ExecutionTicket) (buffer : List ℕ) (t : Transaction)
 
     at_moved : t'.at ≡ t.at + n
     at_moved =
-        let e = leb-true (t.at + t.left) (unit_size s.map t.unit) (unrefused s.map t buffer moved_did.1).0 in
+        let e = leb-true (t.at + t.left) (unit_size s.map t.unit) (unrefused s.map t message buffer moved_did.1).0 in
         omega (arith, unit_small s.map t.unit)
 
     count_moved : moved_count s c ≡ n
@@ -135,7 +138,19 @@ module _ (s : State) (k : ExecutionTicket) (buffer : List ℕ) (t : Transaction)
     start_moved : start_of (next s c).map (Some t') ≡ b + n
     start_moved = ap₂ (λ (map : UnitMap) (i : ℕ). first_of map t.unit + i) (map_next s c) at_moved ∙ omega arith
 
-    module _ (w : Wholes s.blocks) (e : List ℕ) where
+    module _ (w : Wholes s.blocks) (quiet : describes t.command ≡ true → t.left ≡ 0) (e : List ℕ) where
+      -- A message is written only where no bytes of blocks are.
+      front_kept : take (256 * n) (told message one).buffer ≡ take (256 * n) one.buffer
+      front_kept = go (describes t.command) refl
+        where
+          go : (d : Bool) → describes t.command ≡ d → take (256 * n) (told message one).buffer ≡ take (256 * n) one.buffer
+          go true d =
+              let z : 256 * n ≡ 0 = omega (arith, quiet d) in
+              ap (λ (i : ℕ). take i (told message one).buffer) z ∙ sym (ap (λ (i : ℕ). take i one.buffer) z)
+          go false d =
+              let z : message ≡ [] = cond-false _ _ _ d in
+              ap (λ (l : List ℕ). take (256 * n) (told l one).buffer) z
+
       abbrev two : Moved
       two = moved_by_command t.command t' (b + n) (span (laid s.blocks b one.put) (b + n) (left_after t)) e
 
@@ -153,7 +168,7 @@ module _ (s : State) (k : ExecutionTicket) (buffer : List ℕ) (t : Transaction)
       both : Joined s.blocks b n one two all
       both =
           moved_joined s.blocks b n (left_after t) t t' refl at_moved buffer e t.command
-          (unrefused s.map t buffer moved_did.1).1 (bytes_long s.blocks w b n) refl
+          (unrefused s.map t message buffer moved_did.1).1 (bytes_long s.blocks w b n) refl
 
       -- What follows, and with it the segment.
       followed : (s' : State) (left : List ℕ) → ComesTo (next s c) s' k.host t' left (at_once (next s c) t' e) →
@@ -161,6 +176,7 @@ module _ (s : State) (k : ExecutionTicket) (buffer : List ℕ) (t : Transaction)
       followed s' left r = record {
         buffers =
             ap₂ (λ (i : ℕ) (a : Answer). take (256 * i) (buffer_in a) ++ left) count_moved answer_moved
+            ∙ ap (λ (l : List ℕ). l ++ left) front_kept
             ∙ ap (λ (l : List ℕ). take (256 * n) one.buffer ++ l) (r.buffers ∙ ap (λ (q : Moved). q.buffer) two_is)
             ∙ sym both.buffer
             ∙ sym (ap (λ (q : Moved). q.buffer) all_is);
@@ -209,19 +225,20 @@ nothing_left s h t now z =
       others = λ g d. refl;
     }
 
-however_cut : (k : ExecutionTicket) (buffers : List (List ℕ)) (s : State) (t : Transaction) → Wholes s.blocks → (host_of s k.host).transaction ≡ Some t → AllMoved s k buffers → left_of (run s (segments k buffers)) k.host ≡ 0 →
+however_cut : (k : ExecutionTicket) (buffers : List (List ℕ)) (s : State) (t : Transaction) → Wholes s.blocks → (describes t.command ≡ true → t.left ≡ 0) → (host_of s k.host).transaction ≡ Some t → AllMoved s k buffers → left_of (run s (segments k buffers)) k.host ≡ 0 →
     ComesTo s (run s (segments k buffers)) k.host t (all_left s k buffers) (at_once s t (all_given s k buffers))
-however_cut k [] s t w now m z = nothing_left s k.host t now (sym (ap left_in now) ∙ z)
-however_cut k (buffer ∷ more) s t w now m z =
+however_cut k [] s t w quiet now m z = nothing_left s k.host t now (sym (ap left_in now) ∙ z)
+however_cut k (buffer ∷ more) s t w quiet now m z =
     let c = segment k buffer in
-    followed s k buffer t now m.0 w (all_given (next s c) k more) (run (next s c) (segments k more)) (all_left (next s c) k more)
-    (however_cut k more (next s c) (t' s k buffer t now m.0) (whole_next s c w) (now_moved s k buffer t now m.0) m.1 z)
+    followed s k buffer t now m.0 w quiet (all_given (next s c) k more) (run (next s c) (segments k more)) (all_left (next s c) k more)
+    (however_cut k more (next s c) (t' s k buffer t now m.0) (whole_next s c w) (λ d. omega (arith, quiet d)) (now_moved s k buffer t now m.0) m.1 z)
 
-pub transfers_from : (start : State) → Wholes start.blocks → TransfersFrom start
-transfers_from start w calls k t buffers now m z =
+pub transfers_from : (start : State) → Wholes start.blocks → Sound start → TransfersFrom start
+transfers_from start w i calls k t buffers now m z =
     let s = run start calls in
     let whole = whole_run start calls w in
-    let r = however_cut k buffers s t whole now m z in
+    let inside = subst (Fits s.map) now ((sound_run start calls i).fits k.host) in
+    let r = however_cut k buffers s t whole inside.quiet now m z in
     record {
       however_cut = r;
       block_by_block = moves_are
@@ -242,7 +259,7 @@ moving_from start i calls k buffer t fits holds =
     let now = fitting_is s.number k.device phases.Execution (host_of s k.host).transaction t fits in
     let inside = subst (Fits s.map) now ((sound_run start calls i).fits k.host) in
     let lies : lies_in s.map t ≡ true = le-leb (t.at + t.left) (unit_size s.map t.unit) inside.ends in
-    let free : refusal_of s.map t buffer ≡ None = rw (lies, holds) refl in
+    let free : refusal_of s.map t (message_of s.map k.host t) buffer ≡ None = rw (lies, holds) refl in
     subst
     IsMoved
     (sym (answer_is s (segment k buffer) ∙ ap (λ (d : Served). d.answer) (did_fitting s k buffer)

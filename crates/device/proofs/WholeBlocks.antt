@@ -1,5 +1,5 @@
 -- Every sound block keeps 256 bytes, whatever is called.
-use Rattle.std.proofs.Common.{◌≡◌, ℕ, suc, ◌*◌, ◌≤◌, Bool, true, false, cond, leb, ◌⊎◌, List, [], ◌∷◌, length, take, drop, set, Some, None, Ok, Err, Option, Result, sym, refl, ap, ◌∙◌, subst, inl, inr, arith}
+use Rattle.std.proofs.Common.{◌≡◌, ℕ, suc, ◌*◌, ◌≤◌, Bool, true, false, cond, ◌&&◌, leb, ◌⊎◌, List, [], ◌∷◌, length, take, drop, set, Some, None, Ok, Err, Option, Result, sym, refl, ap, ◌∙◌, subst, inl, inr, arith}
 use Rattle.std.proofs.lemmas.List.{length-take, length-drop}
 use Rattle.std.proofs.lemmas.Bool.{cases_eq, leb-true}
 use Rattle.std.specs.List.{slice_get}
@@ -14,7 +14,7 @@ use Rattle.flex.specs.declared.unit_map.UnitMap.{UnitMap}
 use Rattle.host.specs.declared.transaction.Failure.{Failure}
 use Rattle.host.specs.declared.transaction.Transaction.{Transaction}
 use Rattle.host.specs.Progress.{lies_in, segment_of}
-use Rattle.transfer.specs.Segments.{put, put_next, laid, write_by, moved_by_command, is_verify, holds_segment, refusal_of, reach_of}
+use Rattle.transfer.specs.Segments.{put, put_next, laid, write_by, moved_by_command, is_verify, holds_blocks, refusal_of, reach_of}
 use Rattle.transfer.proofs.EachBlock.{Wholes}
 use Rattle.transfer.proofs.Spans.{length_span}
 use Rattle.device.specs.Calls.{Call, by}
@@ -63,19 +63,20 @@ moved_whole None t b os buffer h = tt
 moved_whole (Some commands.Read) t b os buffer h = tt
 moved_whole (Some commands.Write) t b os buffer h = write_whole t.outcome t b os buffer (leb-true _ _ h)
 moved_whole (Some commands.Verify) t b os buffer h = tt
+moved_whole (Some commands.ExtendedDescribe) t b os buffer h = tt
 moved_whole (Some commands.SetDeviceLock) t b os buffer h = tt
 moved_whole (Some commands.DeleteDeviceLock) t b os buffer h = tt
 moved_whole (Some commands.SetUnitLock) t b os buffer h = tt
 moved_whole (Some commands.DeleteUnitLock) t b os buffer h = tt
 
--- A segment that is not refused lies in its unit, and its buffer holds it.
-pub unrefused : (map : UnitMap) (t : Transaction) (buffer : List ℕ) → refusal_of map t buffer ≡ None → (lies_in map t ≡ true) × (holds_segment t buffer ≡ true)
-unrefused map t buffer e = go (lies_in map t) (holds_segment t buffer) refl refl e
+-- A segment that is not refused lies in its unit, and its buffer holds its blocks.
+pub unrefused : (map : UnitMap) (t : Transaction) (message buffer : List ℕ) → refusal_of map t message buffer ≡ None → (lies_in map t ≡ true) × (holds_blocks t buffer ≡ true)
+unrefused map t message buffer e = go (lies_in map t) (holds_blocks t buffer) (leb (length message) (length buffer)) refl refl e
   where
-    go : (l h : Bool) → lies_in map t ≡ l → holds_segment t buffer ≡ h → cond l (cond h None (Some statuses.BadBuffer)) (Some statuses.MessageSequence) ≡ None → (lies_in map t ≡ true) × (holds_segment t buffer ≡ true)
-    go true true p q r = (p, q)
-    go true false p q r = absurd (let z : ◌≡◌ {A = ℕ} 0 1 = cc in omega arith)
-    go false h p q r = absurd (let z : ◌≡◌ {A = ℕ} 0 1 = cc in omega arith)
+    go : (l h m : Bool) → lies_in map t ≡ l → holds_blocks t buffer ≡ h → cond l (cond (h && m) None (Some statuses.BadBuffer)) (Some statuses.MessageSequence) ≡ None → (lies_in map t ≡ true) × (holds_blocks t buffer ≡ true)
+    go true true m p q r = (p, q)
+    go true false m p q r = absurd (let z : ◌≡◌ {A = ℕ} 0 1 = cc in omega arith)
+    go false h m p q r = absurd (let z : ◌≡◌ {A = ℕ} 0 1 = cc in omega arith)
 
 did_whole : (s : State) (c : Call) → AllWhole (did s c).put
 unfolding did
@@ -87,9 +88,9 @@ did_whole s c = go (in_way s c)
       stays = λ _. tt;
       refuses = λ _ _. tt;
       accepts = λ _ _ _ _ _ _. tt;
-      moves = λ t e _ b buffer r.
+      moves = λ t e _ b message buffer r.
           let n : length (content s c) ≡ segment_of t = length_span s.blocks (start s (by c)) (reach s (by c)) ∙ ap reach_of e in
-          moved_whole t.command t b (content s c) buffer (ap (λ (i : ℕ). cond (is_verify t.command) true (leb (256 * i) (length buffer))) n ∙ (unrefused s.map t buffer r).1);
+          moved_whole t.command t b (content s c) buffer (ap (λ (i : ℕ). cond (is_verify t.command) true (leb (256 * i) (length buffer))) n ∙ (unrefused s.map t message buffer r).1);
       ends = λ _. tt;
       clears = λ _ _. tt;
     }) (mail_of s (by c))

@@ -25,7 +25,7 @@ use Rattle.device.specs.declared.ticket.Ticket.{Ticket}
 use Rattle.device.specs.declared.ticket.Ticket.TheVariants as tickets
 use Rattle.device.specs.Calls.{Call, command, segment, report, cancel, clear, notice, fault, by, Answer, accepted, moved, reported, done, noticed, faulted, refusal, returned}
 use Rattle.transfer.specs.Reports.{report_bytes}
-use Rattle.transfer.specs.Segments.{start_of, reach_of, span, laid, Moved, moved_by_command, holds_segment}
+use Rattle.transfer.specs.Segments.{start_of, reach_of, span, laid, Moved, moved_by_command, message_of, told, holds_segment}
 
 -- The state of a device: its controller, and what its store means.
 pub record State : Type 0 where
@@ -141,8 +141,8 @@ executable map (Some t) = cond (lies_in map t) (Some t) None
 abbrev pub segmented : Fixed → Option Transaction → Host → List (Option Block) → ExecutionTicket → List ℕ → Served
 segmented f None x os k buffer = says (returned statuses.MessageSequence (tickets.Execution k) buffer) x
 segmented f (Some t) x os k buffer =
-    cond (holds_segment t buffer)
-    (segment_moved f x t k.host (moved_by_command t.command t (start_of f.map (Some t)) os buffer))
+    cond (holds_segment t (message_of f.map k.host t) buffer)
+    (segment_moved f x t k.host (told (message_of f.map k.host t) (moved_by_command t.command t (start_of f.map (Some t)) os buffer)))
     (says (returned statuses.BadBuffer (tickets.Execution k) buffer) x)
 
 -- A report: the ticket fits, else 1/6; then the buffer has 13 bytes, else 128/5. It ends the transaction.

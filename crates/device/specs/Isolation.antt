@@ -38,6 +38,7 @@ DeletesBy None u x = ⊥
 DeletesBy (Some commands.Read) u x = ⊥
 DeletesBy (Some commands.Write) u x = ⊥
 DeletesBy (Some commands.Verify) u x = ⊥
+DeletesBy (Some commands.ExtendedDescribe) u x = ⊥
 DeletesBy (Some commands.SetDeviceLock) u x = ⊥
 DeletesBy (Some commands.DeleteDeviceLock) u x = x.locks.device ≡ true
 DeletesBy (Some commands.SetUnitLock) u x = ⊥

@@ -8,3 +8,4 @@ pub mod Refusals
 pub mod Transfers
 pub mod Sample
 pub mod Small
+pub mod Describing

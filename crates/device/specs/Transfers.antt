@@ -4,7 +4,7 @@ use Rattle.host.specs.declared.transaction.Failure.{Failure}
 use Rattle.host.specs.declared.transaction.Phase.TheVariants as phases
 use Rattle.host.specs.declared.transaction.Transaction.{Transaction}
 use Rattle.host.specs.Progress.{first_fault, address_tried}
-use Rattle.transfer.specs.Segments.{start_of, span, laid, Moved, moved_by_command, holds_segment}
+use Rattle.transfer.specs.Segments.{start_of, span, laid, Moved, moved_by_command, message_of, holds_segment}
 use Rattle.transfer.specs.Transfers.{Moves}
 use Rattle.device.specs.declared.ticket.ExecutionTicket.{ExecutionTicket}
 use Rattle.device.specs.Calls.{Call, segment, by, Answer, accepted, moved, reported, done, noticed, faulted, refusal, returned}
@@ -40,7 +40,7 @@ MovingFrom start =
     (calls : List Call) (k : ExecutionTicket) (buffer : List ℕ) (t : Transaction) →
     let s = run start calls in
     fitting s.number k.device phases.Execution (host_of s k.host).transaction ≡ Some t →
-    holds_segment t buffer ≡ true →
+    holds_segment t (message_of s.map k.host t) buffer ≡ true →
     IsMoved (answer s (segment k buffer))
 
 -- ---- All segments of a transaction.

@@ -3,6 +3,7 @@ ghost use Rattle.device.specs.Answers.{command_answer, segment_answer, report_an
 ghost use Rattle.device.specs.Calls.{command, segment, report, cancel, clear, notice, fault};
 ghost use Rattle.device.specs.Callers.{known};
 ghost use Rattle.device.specs.Device.{state, after, taken, parameters_of, locks_of, power_on as at_power_on};
+ghost use Rattle.device.specs.Describing.{DescribingFrom};
 ghost use Rattle.device.specs.Isolation.{IsolationFrom};
 ghost use Rattle.device.specs.Laws.{ApartnessFrom, ExclusionFrom, WaitsFrom};
 ghost use Rattle.device.specs.Refusals.{RefusalsFrom};
@@ -25,7 +26,7 @@ use message::parameters::Parameters;
 use store::calls::settle_down;
 use store::store::Store;
 use transfer::report::{REPORT_BYTES, report_bytes};
-use transfer::segment::move_segment;
+use transfer::segment::execute_segment;
 
 /// One disc device, shared by eight hosts, over a store of any kind.
 /// It is not `Drop`: `power_off` settles the store and hands it back.
@@ -116,7 +117,13 @@ impl<S: Store> Device<S> {
                 ticket,
             });
         };
-        match move_segment(&mut self.store, &self.controller.map, transaction, buffer) {
+        match execute_segment(
+            &mut self.store,
+            &self.controller.map,
+            caller.number,
+            transaction,
+            buffer,
+        ) {
             Err(status) => {
                 self.controller.judge_waits();
                 Err(Returned { status, ticket })
@@ -227,6 +234,7 @@ pub fn power_on<S: Store>(number: u32, map: UnitMap, store: S) -> Device<S>
     ensures refusals { RefusalsFrom (state S.Store.blocks result) }
     ensures moving { MovingFrom (state S.Store.blocks result) }
     ensures transfers { TransfersFrom (state S.Store.blocks result) }
+    ensures describing { DescribingFrom (state S.Store.blocks result) }
     ensures sampled { Sampled }
     ensures table { Table }
 {

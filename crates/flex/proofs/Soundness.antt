@@ -6,7 +6,7 @@ use Rattle.std.proofs.lemmas.List.Recursion.{and_at, and_from_places}
 use Rattle.std.specs.List.{list_all}
 use Rattle.flex.specs.declared.unit.Unit.{Unit as DiscUnit}
 use Rattle.flex.specs.Geometries.{size_of}
-use Rattle.flex.specs.Units.{blank, past, counted, apart, inside, all_apart, counts, sound, Holds, Sound}
+use Rattle.flex.specs.Units.{blank, past, up_to, counted, apart, inside, all_apart, counts, sound, Holds, Counted, Sound}
 
 -- what all elements pass, each passes by its place, and the other way round
 module _ {A : Type 0} (f : A → Bool) (d : A) (xs : List A) where
@@ -32,12 +32,28 @@ pub apart_holds : (u v : DiscUnit) (block : ℕ) → apart u v ≡ true → Hold
 apart_holds u v block e h k =
     ⊎_elim (λ p. omega (arith, leb-true _ _ p)) (λ p. omega (arith, leb-true _ _ p)) (or_cases (leb (past u) v.first) (leb (past v) u.first) e)
 
--- a unit with no count 0 has a block
-nonempty : (u : DiscUnit) → (0 < u.geometry.cylinders) × (0 < u.geometry.heads) × (0 < u.geometry.sectors) → u.first < past u
+-- the test of a unit's counts, and what it says
+up_from : (most n : ℕ) → up_to most n ≡ true → (0 < n) × (n ≤ most)
+up_from most n e = let p = and_parts (ltb 0 n) _ e in (ltb-true _ _ p.0, leb-true _ _ p.1)
+
+up_by : (most n : ℕ) → (0 < n) × (n ≤ most) → up_to most n ≡ true
+up_by most n h = and_from _ _ (lt-ltb _ _ h.0) (le-leb _ _ h.1)
+
+pub counted_from : (u : DiscUnit) → counted u ≡ true → Counted u
+counted_from u e =
+    let p = and_parts (up_to 65535 u.geometry.cylinders) _ e in
+    let q = and_parts (up_to 255 u.geometry.heads) _ p.1 in
+    record { cylinders = up_from 65535 _ p.0; heads = up_from 255 _ q.0; sectors = up_from 255 _ q.1 }
+
+counted_to : (u : DiscUnit) → Counted u → counted u ≡ true
+counted_to u h = and_from _ _ (up_by 65535 _ h.cylinders) (and_from _ _ (up_by 255 _ h.heads) (up_by 255 _ h.sectors))
+
+-- a unit within its counts has a block
+nonempty : (u : DiscUnit) → Counted u → u.first < past u
 nonempty u h =
     let g = u.geometry in
-    let p : 1 * 1 ≤ g.cylinders * g.heads = mul-le 1 1 _ _ h.0 h.1 in
-    let q : 1 * 1 ≤ size_of g = mul-le 1 1 _ _ p h.2 in
+    let p : 1 * 1 ≤ g.cylinders * g.heads = mul-le 1 1 _ _ h.cylinders.0 h.heads.0 in
+    let q : 1 * 1 ≤ size_of g = mul-le 1 1 _ _ p h.sectors.0 in
     omega arith
 
 -- units that share no block are apart
@@ -83,9 +99,7 @@ module _ (us : List DiscUnit) (end : ℕ) where
         reachable = p.reachable;
         counts = λ n l.
             let u = get_or us n blank in
-            let t = and_parts (ltb 0 u.geometry.cylinders) _ (passed_at counted blank us n p.counts l) in
-            let w = and_parts (ltb 0 u.geometry.heads) _ t.1 in
-            (ltb-true _ _ t.0, ltb-true _ _ w.0, ltb-true _ _ w.1);
+            counted_from u (passed_at counted blank us n p.counts l);
         once = λ n k block l m h i.
             let u = get_or us n blank in
             let v = get_or us k blank in
@@ -104,9 +118,7 @@ module _ (us : List DiscUnit) (end : ℕ) where
         few = s.few;
         reachable = s.reachable;
         counts =
-            passed_by_all counted blank us (λ n l.
-            let h = s.counts n l in
-            and_from _ _ (lt-ltb _ _ h.0) (and_from _ _ (lt-ltb _ _ h.1) (lt-ltb _ _ h.2)));
+            passed_by_all counted blank us (λ n l. counted_to (get_or us n blank) (s.counts n l));
         once =
             apart_from us (λ n k lt l.
             let m : n < length us = omega arith in

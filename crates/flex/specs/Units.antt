@@ -12,9 +12,12 @@ blank = record { first = 0; geometry = record { cylinders = 0; heads = 0; sector
 abbrev pub past : DiscUnit → ℕ
 past u = u.first + size_of u.geometry
 
--- a unit has at least one cylinder, one head and one sector; that it has at most 65,535, 255 and 255 lies in the numbers' types
+-- a unit has 1 to 65,535 cylinders, 1 to 255 heads and 1 to 255 sectors; the upper ends lie in the numbers' types
+abbrev pub up_to : ℕ → ℕ → Bool
+up_to most n = nat_lt 0 n && nat_le n most
+
 abbrev pub counted : DiscUnit → Bool
-counted u = nat_lt 0 u.geometry.cylinders && (nat_lt 0 u.geometry.heads && nat_lt 0 u.geometry.sectors)
+counted u = up_to 65535 u.geometry.cylinders && (up_to 255 u.geometry.heads && up_to 255 u.geometry.sectors)
 
 -- of two units one ends before the other begins
 abbrev pub apart : DiscUnit → DiscUnit → Bool
@@ -41,11 +44,17 @@ sound us end = counts us end && (all_apart us && list_all (inside end) us)
 abbrev pub Holds : DiscUnit → ℕ → Type 0
 Holds u block = (u.first ≤ block) × (block < past u)
 
+-- its counts are within their ranges:
+pub record Counted (u : DiscUnit) : Type 0 where
+  pub cylinders : (0 < u.geometry.cylinders) × (u.geometry.cylinders ≤ 65535)
+  pub heads : (0 < u.geometry.heads) × (u.geometry.heads ≤ 255)
+  pub sectors : (0 < u.geometry.sectors) × (u.geometry.sectors ≤ 255)
+
 -- and a list of units with a stated end passes just where its counts are in range, no block is in two units, and none is past the end.
 pub record Sound (us : List DiscUnit) (end : ℕ) : Type 0 where
   pub some : 1 ≤ length us
   pub few : length us ≤ 15
   pub reachable : end ≤ 4194304
-  pub counts : (n : ℕ) → n < length us → (0 < (get_or us n blank).geometry.cylinders) × (0 < (get_or us n blank).geometry.heads) × (0 < (get_or us n blank).geometry.sectors)
+  pub counts : (n : ℕ) → n < length us → Counted (get_or us n blank)
   pub once : (n k block : ℕ) → n < length us → k < length us → Holds (slice_index_or us n blank) block → Holds (slice_index_or us k blank) block → n ≡ k
   pub within : (n block : ℕ) → n < length us → Holds (slice_index_or us n blank) block → block < end

@@ -48,6 +48,7 @@ fn each_command(rt: HostRuntime) -> Result<(), Fail> {
             (&[0x00], 1, 7, 256, Some(Command::Read)),
             (&[0x02], 1, 7, 256, Some(Command::Write)),
             (&[0x04], 1, 7, 256, Some(Command::Verify)),
+            (&[0x0c], 1, 7, 256, Some(Command::ExtendedDescribe)),
             (&[0x63], 1, 7, 256, Some(Command::SetDeviceLock)),
             (&[0x6b], 1, 7, 256, Some(Command::DeleteDeviceLock)),
             (&[0x73], 1, 7, 256, Some(Command::SetUnitLock)),

@@ -4,6 +4,8 @@
 #[cfg(test)]
 mod accepted;
 #[cfg(test)]
+mod descriptions;
+#[cfg(test)]
 mod maps;
 #[cfg(test)]
 mod places;

@@ -39,6 +39,7 @@ fn five_commands_are_on_a_unit(rt: HostRuntime) {
         (Command::Read, true),
         (Command::Write, true),
         (Command::Verify, true),
+        (Command::ExtendedDescribe, false),
         (Command::SetDeviceLock, false),
         (Command::DeleteDeviceLock, false),
         (Command::SetUnitLock, true),

@@ -82,6 +82,7 @@ want_of None u = wants.Pass
 want_of (Some commands.Read) u = wants.Unit u
 want_of (Some commands.Write) u = wants.Unit u
 want_of (Some commands.Verify) u = wants.Unit u
+want_of (Some commands.ExtendedDescribe) u = wants.Pass
 want_of (Some commands.SetDeviceLock) u = wants.Device
 want_of (Some commands.DeleteDeviceLock) u = wants.Pass
 want_of (Some commands.SetUnitLock) u = wants.Lock u
@@ -100,6 +101,7 @@ locks_after None u l = l
 locks_after (Some commands.Read) u l = l
 locks_after (Some commands.Write) u l = l
 locks_after (Some commands.Verify) u l = l
+locks_after (Some commands.ExtendedDescribe) u l = l
 locks_after (Some commands.SetDeviceLock) u l = record { device = true; units = l.units }
 locks_after (Some commands.DeleteDeviceLock) u l = record { device = false; units = l.units }
 locks_after (Some commands.SetUnitLock) u l = with_unit_lock l u true
@@ -130,17 +132,36 @@ moves None = false
 moves (Some commands.Read) = true
 moves (Some commands.Write) = true
 moves (Some commands.Verify) = true
+moves (Some commands.ExtendedDescribe) = false
 moves (Some commands.SetDeviceLock) = false
 moves (Some commands.DeleteDeviceLock) = false
 moves (Some commands.SetUnitLock) = false
 moves (Some commands.DeleteUnitLock) = false
 
--- The transaction that a message opens: Read, Write and Verify move blocks, all else goes straight to the report.
+abbrev pub describes : Option Command → Bool
+describes None = false
+describes (Some commands.Read) = false
+describes (Some commands.Write) = false
+describes (Some commands.Verify) = false
+describes (Some commands.ExtendedDescribe) = true
+describes (Some commands.SetDeviceLock) = false
+describes (Some commands.DeleteDeviceLock) = false
+describes (Some commands.SetUnitLock) = false
+describes (Some commands.DeleteUnitLock) = false
+
+-- What moves no block: an Extended Describe has one segment, all else goes straight to the report.
+abbrev pub unmoving : Option Command → ℕ → Transaction
+unmoving k u =
+    cond (describes k)
+    (record { command = k; unit = u; phase = phases.Execution; at = 0; left = 0; outcome = None })
+    (reporting k u None)
+
+-- The transaction that a message opens: Read, Write and Verify move blocks.
 abbrev pub opened : UnitMap → Message → Transaction
 opened map m =
     cond (moves m.command)
     (moving m.command m.parameters.unit (unit_size map m.parameters.unit) m.parameters.address (blocks_asked (unit_size map m.parameters.unit) m.parameters.length))
-    (reporting m.command m.parameters.unit None)
+    (unmoving m.command m.parameters.unit)
 
 -- The parameters are those that the message asks for, but 8/5 zeroes the target address.
 abbrev pub address_after : Option Failure → ℕ → ℕ

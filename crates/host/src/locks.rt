@@ -47,7 +47,8 @@ impl Locks {
             Some(Command::DeleteDeviceLock) => self.device = false,
             Some(Command::SetUnitLock) => self.set_unit(unit, true),
             Some(Command::DeleteUnitLock) => self.set_unit(unit, false),
-            Some(Command::Read | Command::Write | Command::Verify) | None => {}
+            Some(Command::Read | Command::Write | Command::Verify | Command::ExtendedDescribe)
+            | None => {}
         }
     }
 }

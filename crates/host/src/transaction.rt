@@ -1,6 +1,6 @@
 ghost use Rattle.std.specs.Prelude.{◌≡◌};
 ghost use Rattle.host.specs.Hosts.{is_on};
-ghost use Rattle.host.specs.Messages.{address_after, blocks_asked, fits, moves, moving, opened, reporting, unit_size};
+ghost use Rattle.host.specs.Messages.{address_after, blocks_asked, describes, fits, moves, moving, opened, reporting, unit_size, unmoving};
 ghost use Rattle.host.specs.Progress.{address_past, advanced, left_after, lies_in, phase_after, segment_of};
 
 use super::progress::Progress;
@@ -63,6 +63,21 @@ impl Transaction {
         }
     }
 
+    /// A transaction that moves no block: an Extended Describe has one segment, all else goes straight to the report.
+    fn unmoving(command: Option<Command>, unit: u8) -> Transaction
+        ensures { result ≡ unmoving command unit }
+    {
+        let reporting = Transaction::reporting(command, unit, None);
+        if reporting.describes() {
+            Transaction {
+                phase: Phase::Execution,
+                ..reporting
+            }
+        } else {
+            reporting
+        }
+    }
+
     /// A transaction that moves so many blocks of a unit of that size, from an address on.
     fn moving(
         command: Option<Command>,
@@ -98,7 +113,7 @@ impl Transaction {
             command,
         } = message;
         if !moves(command) {
-            return Transaction::reporting(command, parameters.unit, None);
+            return Transaction::unmoving(command, parameters.unit);
         }
         let size = unit_size(map, parameters.unit);
         let count = blocks_asked(size, parameters.length);
@@ -120,6 +135,13 @@ impl Transaction {
         ensures { result ≡ lies_in map.now self.now }
     {
         u64::from(self.at) + u64::from(self.left) <= u64::from(unit_size(map, self.unit))
+    }
+
+    /// Whether it is an Extended Describe, whose segment moves no block.
+    pub fn describes(&self) -> bool
+        ensures { result ≡ describes self.now.command }
+    {
+        matches!(self.command, Some(Command::ExtendedDescribe))
     }
 
     /// How many blocks the next segment moves.

@@ -27,7 +27,7 @@ impl Want {
     {
         let unit = message.parameters.unit;
         match message.command {
-            None | Some(Command::DeleteDeviceLock) => Want::Pass,
+            None | Some(Command::ExtendedDescribe | Command::DeleteDeviceLock) => Want::Pass,
             Some(Command::SetDeviceLock) => Want::Device,
             Some(Command::SetUnitLock) => Want::Lock(unit),
             Some(Command::Read | Command::Write | Command::Verify | Command::DeleteUnitLock) => {

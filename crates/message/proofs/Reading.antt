@@ -5,7 +5,7 @@ use Rattle.std.proofs.lemmas.Bool.{eqb-true, ne_eqb, le-leb, lt-leb, leb-true, a
 use Rattle.std.proofs.lemmas.Option.{none-some}
 use Rattle.std.specs.List.{find}
 use Rattle.message.specs.declared.command.Command.{Command}
-use Rattle.message.specs.declared.command.Command.TheVariants.{Read, Write, Verify, SetDeviceLock, DeleteDeviceLock, SetUnitLock, DeleteUnitLock}
+use Rattle.message.specs.declared.command.Command.TheVariants.{Read, Write, Verify, ExtendedDescribe, SetDeviceLock, DeleteDeviceLock, SetUnitLock, DeleteUnitLock}
 use Rattle.message.specs.declared.draft.Draft.{Draft}
 use Rattle.flex.specs.declared.status.Status.{Status}
 use Rattle.flex.specs.declared.status.Status.TheVariants.{IllegalOpcode, MessageSequence, MessageLength}
@@ -39,6 +39,7 @@ command_of : (k : Command) → command_at (code_of k) ≡ Some k
 command_of Read = refl
 command_of Write = refl
 command_of Verify = refl
+command_of ExtendedDescribe = refl
 command_of SetDeviceLock = refl
 command_of DeleteDeviceLock = refl
 command_of SetUnitLock = refl
@@ -48,6 +49,7 @@ step_command : (m : UnitMap) (d : Draft) (k : Command) (rest : List ℕ) → ste
 step_command m d Read rest = refl
 step_command m d Write rest = refl
 step_command m d Verify rest = refl
+step_command m d ExtendedDescribe rest = refl
 step_command m d SetDeviceLock rest = refl
 step_command m d DeleteDeviceLock rest = refl
 step_command m d SetUnitLock rest = refl

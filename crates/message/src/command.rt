@@ -10,6 +10,7 @@ pub enum Command {
     Read,
     Write,
     Verify,
+    ExtendedDescribe,
     SetDeviceLock,
     DeleteDeviceLock,
     SetUnitLock,
@@ -27,6 +28,7 @@ impl TryFrom<u8> for Command {
             0x00 => Ok(Command::Read),
             0x02 => Ok(Command::Write),
             0x04 => Ok(Command::Verify),
+            0x0c => Ok(Command::ExtendedDescribe),
             0x63 => Ok(Command::SetDeviceLock),
             0x6b => Ok(Command::DeleteDeviceLock),
             0x73 => Ok(Command::SetUnitLock),
@@ -47,7 +49,7 @@ impl Command {
             | Command::Verify
             | Command::SetUnitLock
             | Command::DeleteUnitLock => true,
-            Command::SetDeviceLock | Command::DeleteDeviceLock => false,
+            Command::ExtendedDescribe | Command::SetDeviceLock | Command::DeleteDeviceLock => false,
         }
     }
 }

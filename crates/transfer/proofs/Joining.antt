@@ -213,6 +213,7 @@ module _ (bs : List Block) (b n m : â„•) (t t' : Transaction) (unit : t'.unit â‰
   moved_joined (Some commands.Read) h l out = read_joined out (leb-true (256 * n) (length buffer) h) l
   moved_joined (Some commands.Write) h l out = write_joined (leb-true (256 * n) (length buffer) h) t.outcome refl out
   moved_joined (Some commands.Verify) h l out = verify_joined out
+  moved_joined (Some commands.ExtendedDescribe) h l out = untried_joined out
   moved_joined (Some commands.SetDeviceLock) h l out = untried_joined out
   moved_joined (Some commands.DeleteDeviceLock) h l out = untried_joined out
   moved_joined (Some commands.SetUnitLock) h l out = untried_joined out

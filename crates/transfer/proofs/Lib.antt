@@ -7,3 +7,4 @@ pub mod Starting
 pub mod Joining
 pub mod EachBlock
 pub mod MovesLaw
+pub mod Describing

@@ -91,6 +91,7 @@ module _ (t : Transaction) (bs : List Block) (b n : ℕ) where
     moves w (Some commands.Read) = (scanned, handed_over w, refl)
     moves w (Some commands.Write) = write_moves t.outcome refl
     moves w (Some commands.Verify) = (scanned, refl, refl)
+    moves w (Some commands.ExtendedDescribe) = tt
     moves w (Some commands.SetDeviceLock) = tt
     moves w (Some commands.DeleteDeviceLock) = tt
     moves w (Some commands.SetUnitLock) = tt

@@ -29,6 +29,7 @@ not_tried None t b buffer = refl
 not_tried (Some commands.Read) t b buffer = ap {B = Moved} (λ (r : Option Failure). record { buffer = buffer; put = []; progress = record { tried = 0; outcome = r; fault = None } }) (nothing_read t.outcome)
 not_tried (Some commands.Write) t b buffer = nothing_written t.outcome t refl b buffer
 not_tried (Some commands.Verify) t b buffer = ap {B = Moved} (λ (r : Option Failure). record { buffer = buffer; put = []; progress = record { tried = 0; outcome = r; fault = None } }) (nothing_read t.outcome)
+not_tried (Some commands.ExtendedDescribe) t b buffer = refl
 not_tried (Some commands.SetDeviceLock) t b buffer = refl
 not_tried (Some commands.DeleteDeviceLock) t b buffer = refl
 not_tried (Some commands.SetUnitLock) t b buffer = refl

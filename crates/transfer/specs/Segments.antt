@@ -1,5 +1,5 @@
 -- What one segment does: over the blocks of its span, and the caller's buffer.
-use Rattle.std.specs.Prelude.{ℕ, zero, suc, ◌+◌, ◌*◌, Bool, true, false, cond, List, [], ◌∷◌, ◌++◌, length, take, drop, replicate, Some, None, Ok, Err, Option, Result, nat_le, slice_set}
+use Rattle.std.specs.Prelude.{ℕ, zero, suc, ◌+◌, ◌*◌, Bool, true, false, cond, ◌&&◌, List, [], ◌∷◌, ◌++◌, length, take, drop, replicate, Some, None, Ok, Err, Option, Result, nat_le, slice_set}
 use Rattle.std.specs.List.{slice_get}
 use Rattle.std.specs.Option.{option_map, option_or}
 use Rattle.store.specs.declared.fault.StoreFault.{StoreFault}
@@ -11,12 +11,14 @@ use Rattle.flex.specs.declared.status.Status.TheVariants as statuses
 use Rattle.flex.specs.declared.unit.Unit.{Unit as DiscUnit}
 use Rattle.flex.specs.declared.unit_map.UnitMap.{UnitMap}
 use Rattle.flex.specs.Maps.{unit_at}
+use Rattle.describe.specs.Descriptions.{description}
 use Rattle.host.specs.declared.fault.HostFault.{HostFault}
 use Rattle.host.specs.declared.fault.TransferFault.{TransferFault}
 use Rattle.host.specs.declared.transaction.Failure.{Failure}
 use Rattle.host.specs.declared.transaction.Failure.TheVariants as failures
 use Rattle.host.specs.declared.transaction.Transaction.{Transaction}
 use Rattle.host.specs.declared.progress.Progress.{Progress}
+use Rattle.host.specs.Messages.{describes}
 use Rattle.host.specs.Progress.{lies_in, segment_of, first_fault}
 
 -- The first block of a unit.
@@ -146,33 +148,49 @@ moved_by_command None t b os buffer = untried t buffer
 moved_by_command (Some commands.Read) t b os buffer = read_moved t b os buffer
 moved_by_command (Some commands.Write) t b os buffer = write_by t.outcome t b os buffer
 moved_by_command (Some commands.Verify) t b os buffer = verified t b os buffer
+moved_by_command (Some commands.ExtendedDescribe) t b os buffer = untried t buffer
 moved_by_command (Some commands.SetDeviceLock) t b os buffer = untried t buffer
 moved_by_command (Some commands.DeleteDeviceLock) t b os buffer = untried t buffer
 moved_by_command (Some commands.SetUnitLock) t b os buffer = untried t buffer
 moved_by_command (Some commands.DeleteUnitLock) t b os buffer = untried t buffer
 
--- A buffer holds a segment when it has 256 bytes for each block; for Verify any buffer will do.
+-- The message that a segment writes for the host: the description, for Extended Describe; for all else there is none.
+abbrev pub message_of : UnitMap → ℕ → Transaction → List ℕ
+message_of map h t = cond (describes t.command) (description map h) []
+
+-- It goes into the front of the buffer; the other bytes stay.
+abbrev pub told : List ℕ → Moved → Moved
+told message m = record { buffer = message ++ drop (length message) m.buffer; put = m.put; progress = m.progress }
+
+-- A buffer holds a segment when it has 256 bytes for each block, where for Verify any buffer will do, and when it holds the message.
 abbrev pub is_verify : Option Command → Bool
 is_verify None = false
 is_verify (Some commands.Read) = false
 is_verify (Some commands.Write) = false
 is_verify (Some commands.Verify) = true
+is_verify (Some commands.ExtendedDescribe) = false
 is_verify (Some commands.SetDeviceLock) = false
 is_verify (Some commands.DeleteDeviceLock) = false
 is_verify (Some commands.SetUnitLock) = false
 is_verify (Some commands.DeleteUnitLock) = false
 
-abbrev pub holds_segment : Transaction → List ℕ → Bool
-holds_segment t buffer = cond (is_verify t.command) true (nat_le (256 * segment_of t) (length buffer))
+abbrev pub holds_blocks : Transaction → List ℕ → Bool
+holds_blocks t buffer = cond (is_verify t.command) true (nat_le (256 * segment_of t) (length buffer))
 
--- A segment is moved if its transaction lies in its unit, else 1/6, and the buffer holds it, else 128/5, in this order.
-abbrev pub refusal_of : UnitMap → Transaction → List ℕ → Option Status
-refusal_of map t buffer = cond (lies_in map t) (cond (holds_segment t buffer) None (Some statuses.BadBuffer)) (Some statuses.MessageSequence)
+abbrev pub holds_segment : Transaction → List ℕ → List ℕ → Bool
+holds_segment t message buffer = holds_blocks t buffer && nat_le (length message) (length buffer)
+
+-- A segment is executed if its transaction lies in its unit, else 1/6, and the buffer holds it, else 128/5, in this order.
+abbrev pub refusal_of : UnitMap → Transaction → List ℕ → List ℕ → Option Status
+refusal_of map t message buffer = cond (lies_in map t) (cond (holds_segment t message buffer) None (Some statuses.BadBuffer)) (Some statuses.MessageSequence)
 
 -- What the next segment of a transaction comes to over a store of these blocks.
 abbrev pub moved_over : UnitMap → List Block → Transaction → List ℕ → Moved
 moved_over map bs t buffer =
     moved_by_command t.command t (start_of map (Some t)) (span bs (start_of map (Some t)) (segment_of t)) buffer
+
+abbrev pub executed_over : UnitMap → List Block → ℕ → Transaction → List ℕ → Moved
+executed_over map bs h t buffer = told (message_of map h t) (moved_over map bs t buffer)
 
 -- A refused segment leaves the buffer and the blocks.
 abbrev pub progress_by : Option Status → Moved → Result Progress Status

@@ -70,6 +70,7 @@ MovesBy (Some commands.Write) t b n bs bs' given left after =
     (left ≡ given)
 MovesBy (Some commands.Verify) t b n bs bs' given left after =
     Scanned bs b t.at n t.outcome after × (left ≡ given) × (bs' ≡ bs)
+MovesBy (Some commands.ExtendedDescribe) t b n bs bs' given left after = Unit {0}
 MovesBy (Some commands.SetDeviceLock) t b n bs bs' given left after = Unit {0}
 MovesBy (Some commands.DeleteDeviceLock) t b n bs bs' given left after = Unit {0}
 MovesBy (Some commands.SetUnitLock) t b n bs bs' given left after = Unit {0}

@@ -1,11 +1,13 @@
-ghost use Rattle.std.specs.Prelude.{◌≡◌, true, Some, None};
+ghost use Rattle.std.specs.Prelude.{◌≡◌, true, [], Some, None};
 ghost use Rattle.std.specs.Result.{result_err};
 ghost use Rattle.host.specs.Progress.{lies_in, segment_of};
-ghost use Rattle.transfer.specs.Segments.{start_of, laid, after_reading, moved_by_command, moved_over, holds_segment, refusal_of, progress_by, buffer_by, blocks_by};
+ghost use Rattle.transfer.specs.Segments.{start_of, laid, after_reading, moved_by_command, moved_over, message_of, executed_over, holds_blocks, refusal_of, progress_by, buffer_by, blocks_by};
 ghost use Rattle.transfer.specs.Spans.{in_span};
 ghost use Rattle.transfer.specs.Transfers.{SegmentLaw};
+ghost use Rattle.transfer.specs.Describing.{DescribeLaw};
 
 use super::blocks::Span;
+use describe::description::describe;
 use flex::status::Status;
 use flex::unit_map::UnitMap;
 use host::fault::HostFault;
@@ -42,7 +44,7 @@ fn not_tried(transaction: Transaction) -> Progress
 /// What a transaction's command does with the blocks of its next segment. A Write tries nothing once there is something to report.
 #[tactic(auto, unfolding(crate::specs::Segments::moved_by_command), using(crate::proofs::Spans::length_span))]
 fn move_blocks<S: Store>(store: &mut S, blocks: Span, buffer: &mut [u8]) -> Progress
-    requires { holds_segment blocks.transaction buffer.old ≡ true }
+    requires { holds_blocks blocks.transaction buffer.old ≡ true }
     ensures progress { result ≡ (moved_by_command blocks.transaction.command blocks.transaction blocks.first (in_span blocks (S.Store.blocks store.old)) buffer.old).progress }
     ensures buffer { buffer.new ≡ (moved_by_command blocks.transaction.command blocks.transaction blocks.first (in_span blocks (S.Store.blocks store.old)) buffer.old).buffer }
     ensures after { S.Store.blocks store.new ≡ laid (S.Store.blocks store.old) blocks.first (moved_by_command blocks.transaction.command blocks.transaction blocks.first (in_span blocks (S.Store.blocks store.old)) buffer.old).put }
@@ -71,7 +73,7 @@ fn move_in_unit<S: Store>(
     buffer: &mut [u8],
 ) -> Progress
     requires lies { lies_in map.now transaction ≡ true }
-    requires holds { holds_segment transaction buffer.old ≡ true }
+    requires holds { holds_blocks transaction buffer.old ≡ true }
     ensures progress { result ≡ (moved_over map.now (S.Store.blocks store.old) transaction buffer.old).progress }
     ensures buffer { buffer.new ≡ (moved_over map.now (S.Store.blocks store.old) transaction buffer.old).buffer }
     ensures after { S.Store.blocks store.new ≡ laid (S.Store.blocks store.old) (start_of map.now (Some transaction)) (moved_over map.now (S.Store.blocks store.old) transaction buffer.old).put }
@@ -82,9 +84,9 @@ fn move_in_unit<S: Store>(
     }
 }
 
-/// Whether a buffer of this length holds the next segment; for Verify any will do.
-fn holds_segment(transaction: Transaction, buffer: &[u8]) -> bool
-    ensures { result ≡ holds_segment transaction buffer.now }
+/// Whether a buffer of this length holds the blocks of the next segment; for Verify any will do.
+fn holds_blocks(transaction: Transaction, buffer: &[u8]) -> bool
+    ensures { result ≡ holds_blocks transaction buffer.now }
 {
     matches!(transaction.command, Some(Command::Verify))
         || BLOCK_BYTES * transaction.segment() as usize <= buffer.len()
@@ -95,29 +97,36 @@ fn holds_segment(transaction: Transaction, buffer: &[u8]) -> bool
 
 /// Lets a segment be moved, or tells why it is not.
 fn admit(map: &UnitMap, transaction: Transaction, buffer: &[u8]) -> Result<(), Status>
-    ensures { result_err result ≡ refusal_of map.now transaction buffer.now }
+    ensures { result_err result ≡ refusal_of map.now transaction [] buffer.now }
 {
     if !transaction.lies_in(map) {
         return Err(Status::MessageSequence);
     }
-    if !holds_segment(transaction, buffer) {
+    if !holds_blocks(transaction, buffer) {
         return Err(Status::BadBuffer);
     }
     Ok(())
 }
 
-/// Moves the next segment of a transaction between the store and the buffer, and tells how it went; or refuses it, and moves nothing.
-pub fn move_segment<S: Store>(
+/// Executes the next segment of a host's transaction, and tells how it went: moves its blocks between the store and the
+/// buffer, or writes the description that an Extended Describe asks for. Or refuses it, and does nothing.
+pub fn execute_segment<S: Store>(
     store: &mut S,
     map: &UnitMap,
+    host: u8,
     transaction: Transaction,
     buffer: &mut [u8],
 ) -> Result<Progress, Status>
-    ensures progress { result ≡ progress_by (refusal_of map.now transaction buffer.old) (moved_over map.now (S.Store.blocks store.old) transaction buffer.old) }
-    ensures buffer { buffer.new ≡ buffer_by (refusal_of map.now transaction buffer.old) (moved_over map.now (S.Store.blocks store.old) transaction buffer.old) buffer.old }
-    ensures after { S.Store.blocks store.new ≡ blocks_by (refusal_of map.now transaction buffer.old) (moved_over map.now (S.Store.blocks store.old) transaction buffer.old) (S.Store.blocks store.old) (start_of map.now (Some transaction)) }
+    ensures progress { result ≡ progress_by (refusal_of map.now transaction (message_of map.now host transaction) buffer.old) (executed_over map.now (S.Store.blocks store.old) host transaction buffer.old) }
+    ensures buffer { buffer.new ≡ buffer_by (refusal_of map.now transaction (message_of map.now host transaction) buffer.old) (executed_over map.now (S.Store.blocks store.old) host transaction buffer.old) buffer.old }
+    ensures after { S.Store.blocks store.new ≡ blocks_by (refusal_of map.now transaction (message_of map.now host transaction) buffer.old) (executed_over map.now (S.Store.blocks store.old) host transaction buffer.old) (S.Store.blocks store.old) (start_of map.now (Some transaction)) }
     ensures law { SegmentLaw result transaction (start_of map.now (Some transaction)) (segment_of transaction) (S.Store.blocks store.old) (S.Store.blocks store.new) buffer.old buffer.new }
+    ensures describing { DescribeLaw result map.now host transaction (S.Store.blocks store.old) (S.Store.blocks store.new) buffer.old buffer.new }
 {
     admit(map, transaction, buffer)?;
+    if transaction.describes() {
+        describe(map, host, buffer)?;
+        return Ok(not_tried(transaction));
+    }
     Ok(move_in_unit(store, map, transaction, buffer))
 }

@@ -1,5 +1,5 @@
 ghost use Rattle.std.specs.Prelude.{◌≡◌, ◌≤◌, true, length, is_ok};
-ghost use Rattle.flex.specs.Maps.{block_at, geometry_at, padded, unit_at, Makes, Named};
+ghost use Rattle.flex.specs.Maps.{block_at, geometry_at, listed, padded, unit_at, Makes, Named};
 ghost use Rattle.flex.specs.Units.{Sound};
 
 use super::{CONTROLLER, UNITS, UnitMap};
@@ -50,6 +50,13 @@ impl UnitMap {
         ensures { result ≡ self.now.count }
     {
         self.count
+    }
+
+    /// The units, in the order of their numbers.
+    pub fn units(&self) -> &[Unit]
+        ensures { result.now ≡ listed self.now }
+    {
+        &self.units[..usize::from(self.count)]
     }
 
     /// The stated end.

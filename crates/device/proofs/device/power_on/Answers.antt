@@ -7,12 +7,14 @@ use Rattle.host.specs.Hosts.{at_start}
 use Rattle.device.specs.Device.{State}
 use Rattle.device.specs.Isolation.{IsolationFrom}
 use Rattle.device.specs.Laws.{ApartnessFrom, ExclusionFrom, WaitsFrom}
-use Rattle.device.specs.Transfers.{MovingFrom}
+use Rattle.device.specs.Transfers.{MovingFrom, TransfersFrom}
+use Rattle.device.specs.Describing.{DescribingFrom}
 use Rattle.device.proofs.Laws.{exclusion, waits}
 use Rattle.device.proofs.Runs.{isolation, apartness}
 use Rattle.device.proofs.Refusals.{refusals_from}
 use Rattle.device.proofs.States.{sound_on}
 use Rattle.device.proofs.Transfers.{moving_from, transfers_from}
+use Rattle.device.proofs.Describing.{describing_from}
 use Rattle.device.proofs.Sample.{sampled}
 use Rattle.device.proofs.Small.{small_device}
 use Rattle.device.proofs.device.power_on.Goals as goal
@@ -34,7 +36,8 @@ returns g c =
       waits = subst WaitsFrom (sym made) (waits n map bs);
       refusals = refusals_from _;
       moving = subst MovingFrom (sym made) (moving_from _ (sound_on n map bs));
-      transfers = transfers_from _ (g.S.Store.lawful c.args.store).sized.whole;
+      transfers = subst TransfersFrom (sym made) (transfers_from _ (g.S.Store.lawful c.args.store).sized.whole (sound_on n map bs));
+      describing = subst DescribingFrom (sym made) (describing_from _ (sound_on n map bs));
       sampled = sampled;
       table = small_device;
     }

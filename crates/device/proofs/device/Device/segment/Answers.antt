@@ -12,17 +12,17 @@ pub returns-in-Err : goal.returns-in-Err
 returns-in-Err g c =
     let d = c.args.self.now in
     let found = c.in-Some.ensures in
-    let m = c.move_segment in
+    let m = c.execute_segment in
     let by = c.in-Err.ensures in
     ap (λ (z : Controller). (returned c.in-Err.status (tickets.Execution c.args.ticket) m.new.buffer, state_of z (g.S.Store.blocks m.new.store))) c.judge_waits.ensures
     ∙ segment_refused d.controller c.fitting.new.self found.left (g.S.Store.blocks d.store) c.args.ticket c.pass.result c.pass.ensures c.args.buffer.now c.in-Some.transaction (known c.in-Some.caller) found.kept
-    c.in-Err.status m.new.buffer (g.S.Store.blocks m.new.store) by.progress by.buffer by.after
+    c.in-Some.caller.number found.number c.in-Err.status m.new.buffer (g.S.Store.blocks m.new.store) by.progress by.buffer by.after
 
 pub returns-in-Ok : goal.returns-in-Ok
 returns-in-Ok g c =
     let d = c.args.self.now in
     let found = c.in-Some.ensures in
-    let m = c.move_segment in
+    let m = c.execute_segment in
     let by = c.in-Ok.ensures in
     ap (λ (z : Ticket × Controller). (moved z.0 m.new.buffer, state_of z.1 (g.S.Store.blocks m.new.store))) c.go_on.ensures
     ∙ segment_moved_on d.controller c.fitting.new.self found.left (g.S.Store.blocks d.store) c.args.ticket c.pass.result c.pass.ensures c.args.buffer.now c.in-Some.transaction (known c.in-Some.caller) found.kept

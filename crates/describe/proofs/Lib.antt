@@ -1,0 +1,4 @@
+pub mod Filling
+pub mod Units
+pub mod Writing
+pub mod Reading

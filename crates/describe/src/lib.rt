@@ -1,0 +1,5 @@
+//! The message that answers an Extended Describe: what the controller and its units are.
+#![tactic(auto)]
+
+pub mod description;
+mod tables;
