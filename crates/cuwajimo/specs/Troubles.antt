@@ -1,12 +1,14 @@
 -- What ends a run.
 use Rattle.std.specs.Prelude.{◌≡◌, ℕ, Ok, Err, Result}
 use Rattle.cuwajimo.specs.declared.trouble.Trouble.{Trouble}
-use Rattle.cuwajimo.specs.declared.trouble.Trouble.TheVariants.{Line, Io, Memory}
+use Rattle.cuwajimo.specs.declared.trouble.Trouble.TheVariants.{Line, Script, Io, Usage, Memory}
 
 -- The trouble is with this line of the script, or there was no memory to say so.
 abbrev pub Blames : ℕ → Trouble → Type 0
 Blames line (Line l what) = l ≡ line
+Blames line (Script name e) = ⊥
 Blames line (Io e) = ⊥
+Blames line Usage = ⊥
 Blames line Memory = Unit {0}
 
 -- A refusal blames the line.
@@ -17,5 +19,7 @@ Blamed line (Err e) = Blames line e
 -- A trouble with a line comes from this; want of memory may always come, and no other.
 abbrev pub IfLine : Trouble → Type 0 → Type 0
 IfLine (Line l what) P = P
+IfLine (Script name e) P = ⊥
 IfLine (Io e) P = ⊥
+IfLine Usage P = ⊥
 IfLine Memory P = Unit {0}

@@ -24,28 +24,43 @@ mod words;
 
 use run::{check_files, run};
 use script::cases;
-use std::io::Read;
+use std::io::{IsTerminal, Read};
 use std::process::ExitCode;
 use std::{env, fs};
-use trouble::Trouble;
+use trouble::{Trouble, USAGE, unread};
 
-/// The script: what the file holds that the first argument names, or else standard input.
+/// The script's text on standard input. Whoever sits at a terminal is told that it is waited for.
+fn typed(rt: &HostRuntime) -> Result<String, Trouble> {
+    if rt.stdin().is_terminal() {
+        let _ = eprintln!(rt; "{USAGE}; it is read from here until end of file");
+    }
+    let mut text = String::new(rt.alloc());
+    match rt.stdin().read_to_string(&mut text) {
+        Ok(_) => Ok(text),
+        Err(e) => Err(unread(rt, "standard input", e)),
+    }
+}
+
+/// The script: what the file holds that the argument names, or else standard input.
 fn text(rt: &HostRuntime) -> Result<String, Trouble> {
     let mut args = env::args(rt)?;
     let _program = args.next();
-    match args.next() {
-        Some(path) => Ok(fs::read_to_string(rt, path.as_str())?),
-        None => {
-            let mut text = String::new(rt.alloc());
-            rt.stdin().read_to_string(&mut text)?;
-            Ok(text)
-        }
+    let Some(path) = args.next() else {
+        return typed(rt);
+    };
+    if args.next().is_some() {
+        return Err(Trouble::Usage);
     }
+    let path = path.as_str();
+    fs::read_to_string(rt, path).map_err(|e| unread(rt, path, e))
 }
 
 fn perform(rt: &HostRuntime) -> Result<(), Trouble> {
     let text = text(rt)?;
     let cases = cases(rt.alloc(), text.as_str())?;
+    if cases.iter().all(|case| case.first().is_none()) {
+        let _ = eprintln!(rt; "the script makes no call: nothing was done");
+    }
     check_files(rt, cases.as_slice())?;
     run(rt, cases.as_slice())
 }

@@ -32,7 +32,8 @@ pub(super) fn check_files(rt: &HostRuntime, cases: &[Case]) -> Result<(), Troubl
     Ok(())
 }
 
-/// Writes the image back to the files that it came from. A raw image's spare places never change.
+/// Writes the image back to the files that it came from: all of it beside them first, so that they stay as they are where it cannot be
+/// written. A raw image's spare places never change.
 fn save(rt: &HostRuntime, line: u32, source: &Source, medium: &Medium) -> Result<(), Trouble> {
     match (source, medium) {
         (
@@ -42,8 +43,11 @@ fn save(rt: &HostRuntime, line: u32, source: &Source, medium: &Medium) -> Result
             },
             Medium::Flat { bytes, damage },
         ) => {
-            to.write(rt, line, bytes.as_slice())?;
-            map.write(rt, line, damage.as_slice())?;
+            to.stage(rt, line, bytes.as_slice())?;
+            map.stage(rt, line, damage.as_slice())
+                .inspect_err(|_| to.unstage(rt))?;
+            to.replace(rt, line)?;
+            map.replace(rt, line)?;
         }
         (
             Source::RawFiles {
@@ -56,7 +60,10 @@ fn save(rt: &HostRuntime, line: u32, source: &Source, medium: &Medium) -> Result
                 spares: _,
                 records: _,
             },
-        ) => to.write(rt, line, bytes.as_slice())?,
+        ) => {
+            to.stage(rt, line, bytes.as_slice())?;
+            to.replace(rt, line)?;
+        }
         _ => {
             println!(rt; "save: no file")?;
             return Ok(());

@@ -10,8 +10,12 @@ use std::{fmt, io};
 pub enum Trouble {
     /// a line of the script that cannot be read or carried out
     Line { line: u32, what: String },
-    /// the script itself cannot be read, or an answer cannot be printed
+    /// the script itself, of that name, cannot be read
+    Script { name: String, error: io::Error },
+    /// an answer cannot be printed
     Io(io::Error),
+    /// more words after the program's name than one
+    Usage,
     Memory,
 }
 
@@ -43,9 +47,35 @@ impl fmt::Display for Trouble {
     fn fmt<W: fmt::Write>(&self, f: &mut fmt::Formatter<W>) -> fmt::Result {
         match self {
             Trouble::Line { line, what } => write!(f, "line {line}: {what}"),
-            Trouble::Io(e) => write!(f, "{e}"),
+            Trouble::Script { name, error } => {
+                write!(f, "cannot read the script '{name}': {error}")
+            }
+            Trouble::Io(e) => write!(f, "cannot print: {e}"),
+            Trouble::Usage => f.write_str(USAGE),
             Trouble::Memory => f.write_str("out of memory"),
         }
+    }
+}
+
+/// How the program is called.
+pub const USAGE: &str = "usage: cuwajimo [SCRIPT], without a name for the script on standard input";
+
+/// The trouble with a script that cannot be read.
+pub(super) fn unread(rt: &HostRuntime, name: &str, error: io::Error) -> Trouble {
+    match String::from_str(rt.alloc(), name) {
+        Ok(name) => Trouble::Script { name, error },
+        Err(e) => Trouble::from(e),
+    }
+}
+
+/// The most characters of a word that are shown.
+const SHOWN: usize = 40;
+
+/// The front of a word, as far as it is shown, and what stands for the rest.
+fn shown(word: &str) -> (&str, &str) {
+    match word.char_indices().nth(SHOWN) {
+        Some((end, _)) => (word.get(..end).unwrap_or(word), ".."),
+        None => (word, ""),
     }
 }
 
@@ -76,7 +106,8 @@ impl Spot {
     pub(super) fn about(self, what: &str, word: &str) -> Trouble
         ensures { Blames self.line result }
     {
-        self.said(format!(in self.heap; "{what} '{word}'"))
+        let (front, rest) = shown(word);
+        self.said(format!(in self.heap; "{what} '{front}{rest}'"))
     }
 
     /// A file that could not be read or written.
