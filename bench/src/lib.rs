@@ -1,0 +1,3 @@
+//! What the proved device is compared with, and how.
+
+pub mod plain;
