@@ -1,3 +1,4 @@
 //! What the proved device is compared with, and how.
 
 pub mod plain;
+pub mod trials;

@@ -1,0 +1,3 @@
+//! Traces to try devices with, and what devices leave.
+
+pub mod writing;
