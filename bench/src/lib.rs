@@ -1,4 +1,6 @@
 //! What the proved device is compared with, and how.
 
 pub mod plain;
+#[cfg(feature = "proved")]
+pub mod proved;
 pub mod trials;
