@@ -3,4 +3,5 @@
 pub mod plain;
 #[cfg(feature = "proved")]
 pub mod proved;
+pub mod timing;
 pub mod trials;

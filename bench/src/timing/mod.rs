@@ -1,0 +1,7 @@
+//! How long traces take.
+
+pub mod clock;
+pub mod plans;
+pub mod scene;
+pub mod script;
+pub mod table;
