@@ -4,6 +4,7 @@ use super::message::{Command, Message, WHOLE_UNIT};
 use super::status::Status;
 use super::store::{BLOCK, Fault, Store};
 use super::units::Unit;
+use std::hint::black_box;
 
 /// The most blocks of a segment.
 pub const SEGMENT: u32 = 32;
@@ -191,6 +192,8 @@ fn verify<S: Store>(store: &mut S, from: u32, count: u32) -> Tried {
         if let Err(met) = store.read(from + nth, &mut bytes) {
             fault = fault.or(Some((met, nth)));
         }
+        // A Verify reads its blocks. Nothing looks at their bytes, so the compiler would leave the reading out.
+        black_box(&bytes);
     }
     Tried {
         blocks: count,

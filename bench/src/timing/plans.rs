@@ -71,26 +71,34 @@ impl Blocks {
 }
 
 const TRANSFERS: [(Transfer, Baseline); 3] = [
-    (Transfer::Read, Baseline::FromImage),
-    (Transfer::Write, Baseline::ToImage),
-    (Transfer::Verify, Baseline::FromImage),
+    (Transfer::Read, Baseline::Read),
+    (Transfer::Write, Baseline::Write),
+    (Transfer::Verify, Baseline::Verify),
 ];
 
 /// Segments of unit 0, which both stores have: the same traces for either.
 pub fn small_transfers(blocks: Blocks) -> Vec<Plan> {
-    let mut plans = Vec::new();
-    for segments in [FEW, MANY] {
-        for (transfer, baseline) in TRANSFERS {
+    [FEW, MANY]
+        .map(|segments| some_transfers(blocks, segments))
+        .concat()
+}
+
+/// Only as many of them that opening the store is negligible even where it goes through all tracks.
+pub fn many_small_transfers(blocks: Blocks) -> Vec<Plan> {
+    some_transfers(blocks, MANY)
+}
+
+fn some_transfers(blocks: Blocks, segments: u32) -> Vec<Plan> {
+    TRANSFERS
+        .map(|(transfer, baseline)| {
             let mut script = blocks.script();
             for _ in 0..segments / 2 {
                 script.transfer(transfer, 0, 0, 2);
             }
             let what = format!("{transfer:?} 64 blocks at a time, {segments} segments");
-            plans.push(moving(what, script, baseline));
-        }
-    }
-    plans.extend(warm(&plans));
-    plans
+            moving(what, script, baseline)
+        })
+        .to_vec()
 }
 
 /// Segments of one long transaction over unit 1, which only the large store has.
@@ -104,20 +112,7 @@ pub fn long_transfers() -> Vec<Plan> {
             plans.push(moving(what, script, baseline));
         }
     }
-    plans.extend(warm(&plans));
     plans
-}
-
-/// The Verify plans once more, against a copy that writes no new memory.
-fn warm(plans: &[Plan]) -> Vec<Plan> {
-    let verify = plans.iter().filter(|plan| plan.what.starts_with("Verify"));
-    verify
-        .map(|plan| Plan {
-            what: format!("{}, by memcpy to a warm buffer", plan.what),
-            baseline: Baseline::Warm,
-            ..plan.clone()
-        })
-        .collect()
 }
 
 /// Segments at addresses all over a store.

@@ -1,22 +1,22 @@
 //! A script over memory, run by either side, and the copies that its moves are measured by.
 
-use super::script::{SEGMENT_BYTES, Script};
+use super::script::{Move, SEGMENT_BYTES, Script};
 use crate::plain::layers::Run;
 use crate::plain::raw::RECORD;
 use crate::plain::store::BLOCK;
 use crate::trials::case::{Lent, Side};
 use std::hint::black_box;
 
-/// What a row's times are measured by.
+/// The copies that a row's times are measured by: some of whole segments, and some of single blocks.
 #[derive(Clone, Copy, Debug, PartialEq, Eq)]
 pub enum Baseline {
     None,
-    /// A memcpy of each segment's 8,192 bytes, from the image to its buffer's place in the output.
-    FromImage,
+    /// From the image to the buffers' places in the output.
+    Read,
     /// The other way.
-    ToImage,
-    /// A memcpy of each block's 256 bytes from the image to one buffer of 256, which stays warm.
-    Warm,
+    Write,
+    /// As for a Read; but single blocks all to one buffer, which stays warm.
+    Verify,
 }
 
 #[derive(Debug)]
@@ -54,56 +54,71 @@ impl Scene {
         black_box(self.run::<S>());
     }
 
-    pub fn baseline(baseline: Baseline) -> fn(&mut Self) {
-        match baseline {
-            Baseline::None => |_| (),
-            Baseline::FromImage => Self::copy_from_image,
-            Baseline::ToImage => Self::copy_to_image,
-            Baseline::Warm => Self::copy_blocks_to_one_buffer,
-        }
+    /// Where in the image's memory the bytes of a move begin: in a raw image only about there.
+    fn offset(lent: &Lent, moved: Move) -> usize {
+        moved.block
+            * match lent {
+                Lent::Raw { .. } => RECORD,
+                _ => BLOCK,
+            }
     }
 
-    /// Where in the image's memory a block's bytes stand, or close to there in a raw one.
-    fn in_image(&self) -> usize {
-        match self.lent {
-            Lent::Raw { .. } => RECORD,
-            _ => BLOCK,
-        }
-    }
-
-    fn copy_from_image(&mut self) {
-        let a_block = self.in_image();
-        let image = self.lent.image();
-        for moved in &self.script.moves {
-            let from = moved.block * a_block;
-            self.output[moved.place..][..SEGMENT_BYTES]
-                .copy_from_slice(&image[from..][..SEGMENT_BYTES]);
+    /// A memcpy of each segment's bytes to its buffer's place in the output, `PIECE` bytes at a time.
+    fn copy_from_image<const PIECE: usize>(&mut self) {
+        for &moved in &self.script.moves {
+            let from = &self.lent.image()[Self::offset(&self.lent, moved)..][..SEGMENT_BYTES];
+            let to = &mut self.output[moved.place..][..SEGMENT_BYTES];
+            copy::<PIECE>(to, from);
         }
         black_box(&mut self.output);
     }
 
-    fn copy_to_image(&mut self) {
-        let a_block = self.in_image();
-        let image = self.lent.image_mut();
-        for moved in &self.script.moves {
-            let to = moved.block * a_block;
-            image[to..][..SEGMENT_BYTES]
-                .copy_from_slice(&self.output[moved.place..][..SEGMENT_BYTES]);
+    fn copy_to_image<const PIECE: usize>(&mut self) {
+        for &moved in &self.script.moves {
+            let from = &self.output[moved.place..][..SEGMENT_BYTES];
+            let offset = Self::offset(&self.lent, moved);
+            let to = &mut self.lent.image_mut()[offset..][..SEGMENT_BYTES];
+            copy::<PIECE>(to, from);
         }
-        black_box(image);
+        black_box(self.lent.image_mut());
     }
 
     fn copy_blocks_to_one_buffer(&mut self) {
-        let a_block = self.in_image();
-        let image = self.lent.image();
         let mut buffer = [0; BLOCK];
-        for moved in &self.script.moves {
-            let from = moved.block * a_block;
-            for block in image[from..][..SEGMENT_BYTES].chunks_exact(BLOCK) {
+        for &moved in &self.script.moves {
+            let from = &self.lent.image()[Self::offset(&self.lent, moved)..][..SEGMENT_BYTES];
+            for block in from.chunks_exact(BLOCK) {
                 buffer.copy_from_slice(block);
                 black_box(&mut buffer);
             }
         }
+    }
+}
+
+impl Baseline {
+    /// The copies of whole segments, and of single blocks.
+    pub fn copies(self) -> [fn(&mut Scene); 2] {
+        match self {
+            Self::None => [|_| (), |_| ()],
+            Self::Read => [
+                Scene::copy_from_image::<SEGMENT_BYTES>,
+                Scene::copy_from_image::<BLOCK>,
+            ],
+            Self::Write => [
+                Scene::copy_to_image::<SEGMENT_BYTES>,
+                Scene::copy_to_image::<BLOCK>,
+            ],
+            Self::Verify => [
+                Scene::copy_from_image::<SEGMENT_BYTES>,
+                Scene::copy_blocks_to_one_buffer,
+            ],
+        }
+    }
+}
+
+fn copy<const PIECE: usize>(to: &mut [u8], from: &[u8]) {
+    for (to, from) in to.chunks_exact_mut(PIECE).zip(from.chunks_exact(PIECE)) {
+        black_box(to).copy_from_slice(from);
     }
 }
 

@@ -5,23 +5,11 @@ use super::plans::{Count, Plan};
 use super::scene::{Baseline, Scene};
 use crate::trials::case::{Lent, Side};
 
-/// Seconds that a trace took on either side, and its memcpy.
-#[derive(Clone, Copy, Debug)]
-struct Times {
-    proved: f64,
-    plain: f64,
-    memcpy: Option<f64>,
-}
-
 pub fn print_head() {
-    println!(
-        "{:62} {:>13} {:>13} {:>8} {:>8}",
-        "", "proved", "plain", "proved/", "proved/"
-    );
-    println!(
-        "{:62} {:>13} {:>13} {:>8} {:>8}",
-        "", "", "", "plain", "memcpy"
-    );
+    let head = |a, b, c, d, e| println!("{:58} {a:>11} {b:>11} {c:>8} {d:>8} {e:>8}", "");
+    head("proved", "plain", "proved/", "proved/", "proved/");
+    head("", "", "plain", "memcpy", "memcpy");
+    head("", "", "", "8,192", "256");
 }
 
 pub fn print_title(title: &str) {
@@ -39,31 +27,27 @@ pub fn row<Proved: Side, Plain: Side>(lent: Lent, plan: Plan) -> Lent {
     let mut scene = Scene::new(lent, script);
     scene.check::<Plain>();
     scene.check::<Proved>();
-    let copies = Scene::baseline(baseline);
-    let sides = [Scene::timed::<Proved>, Scene::timed::<Plain>, copies];
-    let [proved, plain, memcpy] = medians(&mut scene, sides);
-    let times = Times {
-        proved,
-        plain,
-        memcpy: (baseline != Baseline::None).then_some(memcpy),
-    };
-    print_row(&what, count, times);
-    scene.lent
-}
-
-fn print_row(what: &str, count: Count, times: Times) {
-    let Times {
-        proved,
-        plain,
-        memcpy,
-    } = times;
-    let by_memcpy = memcpy.map_or(String::new(), |memcpy| format!("{:.2}", proved / memcpy));
+    let [segments, blocks] = baseline.copies();
+    let sides = [
+        Scene::timed::<Proved>,
+        Scene::timed::<Plain>,
+        segments,
+        blocks,
+    ];
+    let [proved, plain, copies @ ..] = medians(&mut scene, sides);
+    let by_copies = copies.map(|copies| match baseline {
+        Baseline::None => String::new(),
+        _ => format!("{:.2}", proved / copies),
+    });
     println!(
-        "  {what:60} {:>13} {:>13} {:>8.2} {by_memcpy:>8}",
+        "  {what:56} {:>11} {:>11} {:>8.2} {:>8} {:>8}",
         rate(count, proved),
         rate(count, plain),
         proved / plain,
+        by_copies[0],
+        by_copies[1],
     );
+    scene.lent
 }
 
 /// Gigabytes or millions of rounds a second.
