@@ -31,7 +31,10 @@ pub enum Size {
 /// Makes a case. Some of the short ones have something wrong with them.
 pub fn case(entry: Entry, size: Size, seed: u64) -> Case {
     let mut random = Random::new(seed);
-    let (units, end) = units(size, &mut random);
+    let (mut units, mut end) = units(size, &mut random);
+    if size == Size::Short && random.percent(8) {
+        nudge(&mut units, &mut end, &mut random);
+    }
     let blocks = store_size(end, size, &mut random);
     let lent = memory(entry, blocks, &mut random);
     let number = random.word() as u32;
@@ -94,6 +97,19 @@ fn units(size: Size, random: &mut Random) -> (Vec<Unit>, u32) {
         _ => next + random.below(3),
     };
     (units, end)
+}
+
+/// Moves a unit, its end or the stated end by one, so that a map is made or only just not.
+fn nudge(units: &mut [Unit], end: &mut u32, random: &mut Random) {
+    let count = units.len() as u32;
+    let unit = &mut units[random.below(count) as usize];
+    match random.below(5) {
+        0 => unit.first = unit.first.saturating_sub(1),
+        1 => unit.first += 1,
+        2 => unit.geometry.cylinders += 1,
+        3 => unit.geometry.sectors -= 1,
+        _ => *end = (*end).max(2) - 1,
+    }
 }
 
 /// How many blocks the store is to have: now and then too few.
