@@ -2,6 +2,7 @@
 
 use boundary_bench::proved::Proved;
 use boundary_bench::timing::clock::RUNS;
+use boundary_bench::timing::pages::Pages;
 use boundary_bench::timing::plans::{
     Blocks, Plan, commands, long_transfers, many_small_transfers, scattered_transfers, set_up,
     small_transfers,
@@ -32,7 +33,7 @@ fn main() {
 }
 
 /// Times some plans over one store.
-fn part(store: &str, blocks: Blocks, lent: Lent, plans: Vec<Plan>) -> Lent {
+fn part(store: &str, blocks: Blocks, lent: Lent<Pages>, plans: Vec<Plan>) -> Lent<Pages> {
     print_title(&format!("{store}, {}", blocks.name()));
     plans.into_iter().fold(lent, row::<Proved, Plain>)
 }

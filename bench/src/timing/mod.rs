@@ -1,6 +1,7 @@
 //! How long traces take.
 
 pub mod clock;
+pub mod pages;
 pub mod plans;
 pub mod scene;
 pub mod script;

@@ -1,5 +1,6 @@
 //! A script over memory, run by either side, and the copies that its moves are measured by.
 
+use super::pages::Pages;
 use super::script::{Move, SEGMENT_BYTES, Script};
 use crate::plain::layers::Run;
 use crate::plain::raw::RECORD;
@@ -21,14 +22,14 @@ pub enum Baseline {
 
 #[derive(Debug)]
 pub struct Scene {
-    pub lent: Lent,
+    pub lent: Lent<Pages>,
     script: Script,
-    output: Vec<u8>,
+    output: Pages,
 }
 
 impl Scene {
-    pub fn new(lent: Lent, script: Script) -> Self {
-        let output = vec![0x5A; script.written];
+    pub fn new(lent: Lent<Pages>, script: Script) -> Self {
+        let output = Pages::new(0x5A, script.written);
         Self {
             lent,
             script,
@@ -55,7 +56,7 @@ impl Scene {
     }
 
     /// Where in the image's memory the bytes of a move begin: in a raw image only about there.
-    fn offset(lent: &Lent, moved: Move) -> usize {
+    fn offset(lent: &Lent<Pages>, moved: Move) -> usize {
         moved.block
             * match lent {
                 Lent::Raw { .. } => RECORD,
@@ -122,30 +123,30 @@ fn copy<const PIECE: usize>(to: &mut [u8], from: &[u8]) {
     }
 }
 
-/// A flat image of sound blocks, every byte of it touched.
-pub fn flat(blocks: usize) -> Lent {
+/// A flat image of sound blocks.
+pub fn flat(blocks: usize) -> Lent<Pages> {
     Lent::Flat {
-        image: vec![0x11; blocks * BLOCK],
-        damage: vec![0; blocks.div_ceil(8)],
+        image: Pages::new(0x11, blocks * BLOCK),
+        damage: Pages::new(0, blocks.div_ceil(8)),
     }
 }
 
 /// A raw image of sound blocks, 64 to a track, the spare record in the middle of each.
-pub fn raw(blocks: usize) -> Lent {
+pub fn raw(blocks: usize) -> Lent<Pages> {
     let tracks = blocks / 64;
-    let mut image = vec![0x11; tracks * 65 * RECORD];
+    let mut image = Pages::new(0x11, tracks * 65 * RECORD);
     for record in image.chunks_exact_mut(RECORD) {
         record[0] = 0;
     }
     Lent::Raw {
         image,
-        spares: vec![32; tracks],
+        spares: Pages::new(32, tracks),
         records: 65,
     }
 }
 
 /// The same flat image below a window on all of it, a write guard on no block, and a cache.
-pub fn pile(lent: Lent, blocks: u32) -> Lent {
+pub fn pile(lent: Lent<Pages>, blocks: u32) -> Lent<Pages> {
     match lent {
         Lent::Flat { image, damage } => Lent::Pile {
             image,

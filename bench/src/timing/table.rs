@@ -1,6 +1,7 @@
 //! The table of times.
 
 use super::clock::medians;
+use super::pages::Pages;
 use super::plans::{Count, Plan};
 use super::scene::{Baseline, Scene};
 use crate::trials::case::{Lent, Side};
@@ -17,7 +18,7 @@ pub fn print_title(title: &str) {
 }
 
 /// Times a plan over memory, prints its row, and hands the memory back.
-pub fn row<Proved: Side, Plain: Side>(lent: Lent, plan: Plan) -> Lent {
+pub fn row<Proved: Side, Plain: Side>(lent: Lent<Pages>, plan: Plan) -> Lent<Pages> {
     let Plan {
         what,
         script,
@@ -50,10 +51,13 @@ pub fn row<Proved: Side, Plain: Side>(lent: Lent, plan: Plan) -> Lent {
     scene.lent
 }
 
-/// Gigabytes or millions of rounds a second.
+/// Gigabytes a second, or rounds in thousands or millions.
 fn rate(count: Count, seconds: f64) -> String {
     match count {
         Count::Bytes(bytes) => format!("{:.2} GB/s", bytes as f64 / seconds / 1e9),
-        Count::Rounds(rounds) => format!("{:.2} M/s", f64::from(rounds) / seconds / 1e6),
+        Count::Rounds(rounds) => match f64::from(rounds) / seconds {
+            few if few < 1e5 => format!("{:.2} k/s", few / 1e3),
+            many => format!("{:.2} M/s", many / 1e6),
+        },
     }
 }

@@ -2,6 +2,7 @@
 
 use crate::plain::layers::Run;
 use crate::plain::trace;
+use std::ops::DerefMut;
 
 /// Which of the three entry points a case goes through.
 #[derive(Clone, Copy, Debug, PartialEq, Eq)]
@@ -17,19 +18,19 @@ impl Entry {
 
 /// A store's memory, and the numbers that go with it.
 #[derive(Clone, Debug)]
-pub enum Lent {
+pub enum Lent<Bytes = Vec<u8>> {
     Flat {
-        image: Vec<u8>,
-        damage: Vec<u8>,
+        image: Bytes,
+        damage: Bytes,
     },
     Raw {
-        image: Vec<u8>,
-        spares: Vec<u8>,
+        image: Bytes,
+        spares: Bytes,
         records: u32,
     },
     Pile {
-        image: Vec<u8>,
-        damage: Vec<u8>,
+        image: Bytes,
+        damage: Bytes,
         window: Run,
         guard: Run,
     },
@@ -84,15 +85,7 @@ impl Side for Plain {
     }
 }
 
-impl Lent {
-    pub fn entry(&self) -> Entry {
-        match self {
-            Self::Flat { .. } => Entry::Flat,
-            Self::Raw { .. } => Entry::Raw,
-            Self::Pile { .. } => Entry::Pile,
-        }
-    }
-
+impl<Bytes: DerefMut<Target = [u8]>> Lent<Bytes> {
     pub fn run<S: Side>(&mut self, trace: &[u8], output: &mut [u8]) -> u64 {
         match self {
             Self::Flat { image, damage } => S::flat(image, damage, trace, output),
@@ -109,28 +102,30 @@ impl Lent {
             } => S::pile(image, damage, *window, *guard, trace, output),
         }
     }
+}
 
-    pub fn image(&self) -> &[u8] {
+impl<Bytes> Lent<Bytes> {
+    pub fn image(&self) -> &Bytes {
         match self {
             Self::Flat { image, .. } | Self::Raw { image, .. } | Self::Pile { image, .. } => image,
         }
     }
 
-    pub fn image_mut(&mut self) -> &mut Vec<u8> {
+    pub fn image_mut(&mut self) -> &mut Bytes {
         match self {
             Self::Flat { image, .. } | Self::Raw { image, .. } | Self::Pile { image, .. } => image,
         }
     }
 
     /// The damage map, or the places of the spare records.
-    pub fn beside(&self) -> &[u8] {
+    pub fn beside(&self) -> &Bytes {
         match self {
             Self::Flat { damage, .. } | Self::Pile { damage, .. } => damage,
             Self::Raw { spares, .. } => spares,
         }
     }
 
-    pub fn beside_mut(&mut self) -> &mut Vec<u8> {
+    pub fn beside_mut(&mut self) -> &mut Bytes {
         match self {
             Self::Flat { damage, .. } | Self::Pile { damage, .. } => damage,
             Self::Raw { spares, .. } => spares,

@@ -504,7 +504,7 @@ fn spoil_head(trace: &mut [u8], random: &mut Random) {
 
 /// Puts something wrong into a case: trace, memory or output.
 fn spoil(case: &mut Case, random: &mut Random) {
-    match random.below(9) {
+    match random.below(11) {
         0 => case.trace.truncate(place(case.trace.len(), random)),
         1 => {
             let head = head_length(&case.trace).unwrap_or(0);
@@ -514,6 +514,11 @@ fn spoil(case: &mut Case, random: &mut Random) {
         5 => resize(case.lent.image_mut(), random),
         6 => resize(case.lent.beside_mut(), random),
         7 => spoil_numbers(&mut case.lent, random),
+        8 => add_bad_call(&mut case.trace, random),
+        9 => {
+            let room = case.output.len();
+            case.output.truncate(room - place(room.min(20), random));
+        }
         _ => case.output.truncate(place(case.output.len(), random)),
     }
 }
@@ -538,6 +543,22 @@ fn spoil_calls(trace: &mut Vec<u8>, random: &mut Random) {
             }
         }
     }
+}
+
+/// Adds a call of no kind, or one that gives more bytes than its buffer has.
+fn add_bad_call(trace: &mut Vec<u8>, random: &mut Random) {
+    let host = random.below(8) as u8;
+    if random.percent(50) {
+        trace.extend([random.pick(&[10, 11, 16, 128, 255]), host]);
+        return;
+    }
+    let size = random.below(20);
+    let more = random.within(1, 2);
+    let given = random.bytes((size + more) as usize);
+    trace.extend([random.within(1, 2) as u8, host]);
+    trace.extend(size.to_be_bytes());
+    trace.extend((given.len() as u32).to_be_bytes());
+    trace.extend(given);
 }
 
 fn resize(bytes: &mut Vec<u8>, random: &mut Random) {
