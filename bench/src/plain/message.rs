@@ -110,6 +110,50 @@ impl Draft {
         }
     }
 
+    /// Takes a code that may stand here, and its bytes off the front of `rest`.
+    #[inline]
+    fn take(
+        &mut self,
+        code: Code,
+        rest: &mut &[u8],
+        map: &UnitMap,
+        own: Parameters,
+    ) -> Result<(), Status> {
+        match code {
+            Code::NoOp => {}
+            Code::SetUnit(unit) => {
+                map.geometry(unit).ok_or(Status::ModuleAddressing)?;
+                self.unit = Some(unit);
+            }
+            Code::SetSingleAddress => {
+                let address = single_address(operand(rest)?);
+                let size = self.geometry(map, own).size();
+                let within = u32::try_from(address).ok().filter(|&a| a < size);
+                self.address = Some(within.ok_or(Status::AddressBounds)?);
+            }
+            Code::SetVectorAddress => {
+                let vector = vector(operand(rest)?);
+                let address = self.geometry(map, own).address_at(vector);
+                self.address = Some(address.ok_or(Status::AddressBounds)?);
+            }
+            Code::SetLength => {
+                let length = u32::from_be_bytes(operand(rest)?);
+                if length != WHOLE_UNIT && !length.is_multiple_of(BLOCK as u32) {
+                    return Err(Status::ParameterBounds);
+                }
+                self.length = Some(length);
+            }
+            Code::Real(command) => self.command = Some(command),
+        }
+        Ok(())
+    }
+
+    /// The geometry of the unit in effect; a unit that is not in the map has no block.
+    fn geometry(&self, map: &UnitMap, own: Parameters) -> Geometry {
+        map.geometry(self.unit.unwrap_or(own.unit))
+            .unwrap_or(Geometry::NONE)
+    }
+
     fn parameters(&self, own: Parameters) -> Parameters {
         let unit = self.unit.unwrap_or(own.unit);
         let kept = if unit == own.unit { own.address } else { 0 };
@@ -134,47 +178,12 @@ pub fn decode(map: &UnitMap, own: Parameters, bytes: &[u8]) -> Result<Message, S
         if !draft.allows(code) {
             return Err(Status::MessageSequence);
         }
-        match code {
-            Code::NoOp => {}
-            Code::SetUnit(unit) => {
-                map.geometry(unit).ok_or(Status::ModuleAddressing)?;
-                draft.unit = Some(unit);
-            }
-            Code::SetSingleAddress => {
-                let address = single_address(operand(&mut rest)?);
-                let size = effective(map, own, &draft).size();
-                draft.address = Some(
-                    u32::try_from(address)
-                        .ok()
-                        .filter(|&address| address < size)
-                        .ok_or(Status::AddressBounds)?,
-                );
-            }
-            Code::SetVectorAddress => {
-                let vector = vector(operand(&mut rest)?);
-                let geometry = effective(map, own, &draft);
-                draft.address = Some(geometry.address_at(vector).ok_or(Status::AddressBounds)?);
-            }
-            Code::SetLength => {
-                let length = u32::from_be_bytes(operand(&mut rest)?);
-                if length != WHOLE_UNIT && !length.is_multiple_of(BLOCK as u32) {
-                    return Err(Status::ParameterBounds);
-                }
-                draft.length = Some(length);
-            }
-            Code::Real(command) => draft.command = Some(command),
-        }
+        draft.take(code, &mut rest, map, own)?;
     }
     Ok(Message {
         parameters: draft.parameters(own),
         command: draft.command,
     })
-}
-
-/// The geometry of the unit in effect; a unit that is not in the map has no block.
-fn effective(map: &UnitMap, own: Parameters, draft: &Draft) -> Geometry {
-    map.geometry(draft.unit.unwrap_or(own.unit))
-        .unwrap_or(Geometry::NONE)
 }
 
 fn operand<const N: usize>(rest: &mut &[u8]) -> Result<[u8; N], Status> {
