@@ -1,5 +1,6 @@
 //! The device: eight hosts over one store.
 
+use super::description::description;
 use super::host::{Host, HostFault, Locks, Want};
 use super::message::{Command, Message, Parameters, decode};
 use super::status::Status;
@@ -95,6 +96,10 @@ impl<S: Store> Device<S> {
     fn move_segment(&mut self, bearer: Bearer, buffer: &mut [u8]) -> Result<Phase, Status> {
         let record = fitting(self.number, &mut self.hosts, bearer)?;
         let transaction = in_phase(record.transaction.as_mut(), Phase::Execution)?;
+        if transaction.is_describing() {
+            transaction.describe(&description(&self.map, bearer.host), buffer)?;
+            return Ok(transaction.phase());
+        }
         let number = transaction.unit();
         let unit = self.map.unit(number).ok_or(Status::MessageSequence)?;
         let next = transaction.next();

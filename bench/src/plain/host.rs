@@ -27,7 +27,7 @@ impl Locks {
             Command::DeleteDeviceLock => self.device = false,
             Command::SetUnitLock => self.units |= 1 << unit,
             Command::DeleteUnitLock => self.units &= !(1 << unit),
-            Command::Read | Command::Write | Command::Verify => {}
+            Command::Read | Command::Write | Command::Verify | Command::ExtendedDescribe => {}
         }
     }
 }
@@ -45,7 +45,7 @@ impl Want {
     pub fn of(message: &Message) -> Self {
         let unit = message.parameters.unit;
         match message.command {
-            None | Some(Command::DeleteDeviceLock) => Self::Pass,
+            None | Some(Command::ExtendedDescribe | Command::DeleteDeviceLock) => Self::Pass,
             Some(Command::SetDeviceLock) => Self::Device,
             Some(Command::SetUnitLock) => Self::Lock(unit),
             Some(Command::Read | Command::Write | Command::Verify | Command::DeleteUnitLock) => {

@@ -32,6 +32,7 @@ pub enum Command {
     Read,
     Write,
     Verify,
+    ExtendedDescribe,
     SetDeviceLock,
     DeleteDeviceLock,
     SetUnitLock,
@@ -40,7 +41,10 @@ pub enum Command {
 
 impl Command {
     pub fn is_on_unit(self) -> bool {
-        !matches!(self, Self::SetDeviceLock | Self::DeleteDeviceLock)
+        !matches!(
+            self,
+            Self::ExtendedDescribe | Self::SetDeviceLock | Self::DeleteDeviceLock
+        )
     }
 }
 
@@ -74,6 +78,7 @@ impl TryFrom<u8> for Code {
             0x00 => Self::Real(Command::Read),
             0x02 => Self::Real(Command::Write),
             0x04 => Self::Real(Command::Verify),
+            0x0C => Self::Real(Command::ExtendedDescribe),
             0x63 => Self::Real(Command::SetDeviceLock),
             0x6B => Self::Real(Command::DeleteDeviceLock),
             0x73 => Self::Real(Command::SetUnitLock),

@@ -4,6 +4,7 @@
 #![forbid(unsafe_code)]
 
 pub mod cache;
+pub mod description;
 pub mod device;
 pub mod flat;
 pub mod geometry;

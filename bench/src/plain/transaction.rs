@@ -52,6 +52,8 @@ pub struct Transaction {
     next: u32,
     /// How many blocks are left; none in the report phase.
     left: u32,
+    /// An Extended Describe whose description is still to be handed over.
+    describing: bool,
     outcome: Outcome,
 }
 
@@ -90,12 +92,13 @@ impl Transaction {
             unit: parameters.unit,
             next: parameters.address,
             left,
+            describing: message.command == Some(Command::ExtendedDescribe),
             outcome,
         }
     }
 
     pub fn phase(&self) -> Phase {
-        if self.left > 0 {
+        if self.left > 0 || self.describing {
             Phase::Execution
         } else {
             Phase::Report
@@ -117,6 +120,20 @@ impl Transaction {
 
     pub fn report(&self) -> [u8; REPORT] {
         self.outcome.report()
+    }
+
+    pub fn is_describing(&self) -> bool {
+        self.describing
+    }
+
+    /// The segment of an Extended Describe: the description goes into the buffer's front.
+    pub fn describe(&mut self, description: &[u8], buffer: &mut [u8]) -> Result<(), Status> {
+        let front = buffer
+            .get_mut(..description.len())
+            .ok_or(Status::BadBuffer)?;
+        front.copy_from_slice(description);
+        self.describing = false;
+        Ok(())
     }
 
     /// Moves the next segment between the store, where the unit's blocks begin at `first`, and `buffer`.

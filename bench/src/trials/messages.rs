@@ -11,12 +11,13 @@ const SET_UNIT: u8 = 0x20;
 const SINGLE_ADDRESS: u8 = 0x10;
 const VECTOR_ADDRESS: u8 = 0x11;
 const LENGTH: u8 = 0x18;
+const DESCRIBE: u8 = 0x0C;
 const SET_DEVICE_LOCK: u8 = 0x63;
 const DELETE_DEVICE_LOCK: u8 = 0x6B;
 const SET_UNIT_LOCK: u8 = 0x73;
 const DELETE_UNIT_LOCK: u8 = 0x7B;
 
-const CODES: [u8; 16] = [
+const CODES: [u8; 17] = [
     NO_OP,
     SET_UNIT,
     SET_UNIT + 1,
@@ -28,6 +29,7 @@ const CODES: [u8; 16] = [
     0x00,
     0x02,
     0x04,
+    DESCRIBE,
     SET_DEVICE_LOCK,
     DELETE_DEVICE_LOCK,
     SET_UNIT_LOCK,
@@ -38,17 +40,18 @@ const CODES: [u8; 16] = [
 /// How likely the commands of a message are.
 #[derive(Clone, Copy, Debug)]
 pub struct Taste {
-    /// None, Read, Write, Verify, the device's lock, a unit's lock, either deleted.
-    pub commands: [u32; 8],
+    /// None, Read, Write, Verify, Extended Describe, the device's lock, a unit's lock, either deleted.
+    pub commands: [u32; 9],
     /// The most blocks that lengths mostly name.
     pub blocks: u32,
 }
 
-const COMMANDS: [Option<u8>; 8] = [
+const COMMANDS: [Option<u8>; 9] = [
     None,
     Some(0x00),
     Some(0x02),
     Some(0x04),
+    Some(DESCRIBE),
     Some(SET_DEVICE_LOCK),
     Some(SET_UNIT_LOCK),
     Some(DELETE_DEVICE_LOCK),
