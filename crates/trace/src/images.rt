@@ -1,0 +1,63 @@
+use super::ending::{Ending, How};
+use super::head::Head;
+use super::play::{Played, play};
+use cache::cache::Cache;
+use flat::flat::FlatImage;
+use layer::guard::WriteGuard;
+use layer::run::Run;
+use layer::window::Window;
+use raw::raw::RawImage;
+use store::fault::Protection;
+
+/// Plays a trace over a flat image.
+pub fn play_flat(image: &mut [u8], damage: &mut [u8], trace: &[u8], output: &mut [u8]) -> Ending {
+    let Some((head, calls)) = Head::split(trace) else {
+        return Ending::refused(How::NoHead);
+    };
+    let Ok(image) = FlatImage::open(image, damage, Protection::Open) else {
+        return Ending::refused(How::NoImage);
+    };
+    let Played { store, ending } = play(image, head, calls, output);
+    drop(store);
+    ending
+}
+
+/// Plays a trace over a raw image.
+pub fn play_raw(
+    image: &mut [u8],
+    spares: &[u8],
+    records: u32,
+    trace: &[u8],
+    output: &mut [u8],
+) -> Ending {
+    let Some((head, calls)) = Head::split(trace) else {
+        return Ending::refused(How::NoHead);
+    };
+    let Ok(image) = RawImage::open(image, spares, records, Protection::Open) else {
+        return Ending::refused(How::NoImage);
+    };
+    let Played { store, ending } = play(image, head, calls, output);
+    drop(store);
+    ending
+}
+
+/// Plays a trace over a flat image under a window, a write guard and a cache.
+pub fn play_pile(
+    image: &mut [u8],
+    damage: &mut [u8],
+    shown: Run,
+    guarded: Run,
+    trace: &[u8],
+    output: &mut [u8],
+) -> Ending {
+    let Some((head, calls)) = Head::split(trace) else {
+        return Ending::refused(How::NoHead);
+    };
+    let Ok(image) = FlatImage::open(image, damage, Protection::Open) else {
+        return Ending::refused(How::NoImage);
+    };
+    let pile = Cache::new(WriteGuard::new(Window::new(image, shown), guarded));
+    let Played { store, ending } = play(pile, head, calls, output);
+    drop(store.release());
+    ending
+}

@@ -1,0 +1,190 @@
+ghost use Rattle.std.specs.Prelude.{◌≡◌, ◌<◌, ◌≤◌, ◌^◌, length, IfSome};
+ghost use Rattle.trace.specs.Calls.{buffer_size};
+
+use super::answer::{ANSWER_BYTES, Answer};
+use super::call::Call;
+use super::ending::{Ending, How};
+use desk::desk::Desk;
+use device::device::Device;
+use device::ticket::{Returned, Ticket};
+use store::store::Store;
+
+/// A device that is on, and the tickets that its hosts hold. It is not `Drop`: `power_off` ends both.
+pub struct Player<S> {
+    device: Device<S>,
+    desk: Desk,
+}
+
+impl<S: Store> Player<S> {
+    /// A device whose hosts hold no ticket.
+    pub(super) fn new(device: Device<S>) -> Player<S> {
+        Player {
+            device,
+            desk: Desk::new(),
+        }
+    }
+
+    /// Makes a call, and tells what it answers. The buffer is the one that the call lends.
+    pub(super) fn make(&mut self, call: Call<'_>, buffer: &mut [u8]) -> Answer
+        requires { buffer_size call ≤ length buffer.old }
+    {
+        match call {
+            Call::Command { host, message } => self.command(host, message),
+            Call::Segment { host, filling } => {
+                filling.lay(buffer);
+                self.segment(host, buffer)
+            }
+            Call::Report { host, filling } => {
+                filling.lay(buffer);
+                self.report(host, buffer)
+            }
+            Call::Cancel { host } => self.cancel(host),
+            Call::Clear { host } => self.clear(host),
+            Call::Notice { host } => self.notice(host),
+            Call::Fault { host } => self.fault(host),
+            Call::Parameters { host } => self.parameters(host),
+            Call::Locks { host } => self.locks(host),
+            Call::Activity => Answer::Activity(self.device.activity()),
+        }
+    }
+
+    /// Makes a call and writes its answer, and behind it the buffer that it lends, into the front of the room; tells how
+    /// many bytes that was, or none where the room is too small.
+    fn step(&mut self, call: Call<'_>, room: &mut [u8]) -> Option<usize>
+        ensures { IfSome result (λ n. n ≤ length room.old) }
+    {
+        let end = ANSWER_BYTES + call.buffer_size();
+        if room.len() < end {
+            return None;
+        }
+        let answer = self.make(call, &mut room[ANSWER_BYTES..end]);
+        room[..ANSWER_BYTES].copy_from_slice(&answer.bytes());
+        Some(end)
+    }
+
+    /// Makes the calls of a trace, until it ends or one cannot be made.
+    pub(super) fn run(&mut self, calls: &[u8], output: &mut [u8]) -> Ending
+        requires { length output.old < 2 ^ 56 }
+    {
+        let mut left = calls;
+        let mut written = 0;
+        while !left.is_empty() {
+            let Some((call, rest)) = Call::split(left) else {
+                return Ending::after(How::NoCall, written);
+            };
+            let Some(size) = self.step(call, &mut output[written..]) else {
+                return Ending::after(How::NoRoom, written);
+            };
+            written += size;
+            left = rest;
+        }
+        Ending::after(How::Whole, written)
+    }
+
+    /// Cancels the tickets that are still open, powers the device off, and hands back its store.
+    pub(super) fn power_off(self) -> S {
+        let Player { mut device, desk } = self;
+        desk.close(&mut device);
+        device.power_off()
+    }
+
+    /// Keeps a ticket for a host, and tells of which kind it is.
+    fn hand(&mut self, host: u8, ticket: Ticket) -> Answer {
+        let answer = Answer::handed(&ticket);
+        self.desk.put(&mut self.device, host, ticket);
+        answer
+    }
+
+    /// Keeps what a host has in place of the ticket that a call takes.
+    fn keep(&mut self, host: u8, ticket: Option<Ticket>) -> Answer {
+        if let Some(ticket) = ticket {
+            self.desk.put(&mut self.device, host, ticket);
+        }
+        Answer::NoTicket
+    }
+
+    fn command(&mut self, host: u8, message: &[u8]) -> Answer {
+        match self.device.command(host, message) {
+            Ok(ticket) => self.hand(host, ticket),
+            Err(status) => Answer::Refused(status),
+        }
+    }
+
+    fn segment(&mut self, host: u8, buffer: &mut [u8]) -> Answer {
+        match self.desk.take(host) {
+            Some(Ticket::Execution(ticket)) => match self.device.segment(ticket, buffer) {
+                Ok(ticket) => self.hand(host, ticket),
+                Err(Returned { status, ticket }) => {
+                    self.desk
+                        .put(&mut self.device, host, Ticket::Execution(ticket));
+                    Answer::Refused(status)
+                }
+            },
+            other => self.keep(host, other),
+        }
+    }
+
+    fn report(&mut self, host: u8, buffer: &mut [u8]) -> Answer {
+        match self.desk.take(host) {
+            Some(Ticket::Report(ticket)) => match self.device.report(ticket, buffer) {
+                Ok(()) => Answer::Done,
+                Err(Returned { status, ticket }) => {
+                    self.desk
+                        .put(&mut self.device, host, Ticket::Report(ticket));
+                    Answer::Refused(status)
+                }
+            },
+            other => self.keep(host, other),
+        }
+    }
+
+    fn cancel(&mut self, host: u8) -> Answer {
+        let Some(ticket) = self.desk.take(host) else {
+            return Answer::NoTicket;
+        };
+        match self.device.cancel(ticket) {
+            Ok(()) => Answer::Done,
+            Err(Returned { status, ticket }) => {
+                self.desk.put(&mut self.device, host, ticket);
+                Answer::Refused(status)
+            }
+        }
+    }
+
+    fn clear(&mut self, host: u8) -> Answer {
+        match self.device.clear(host) {
+            Ok(()) => Answer::Done,
+            Err(status) => Answer::Refused(status),
+        }
+    }
+
+    fn notice(&mut self, host: u8) -> Answer {
+        match self.device.notice(host) {
+            Ok(Some(status)) => Answer::Notice(status),
+            Ok(None) => Answer::Done,
+            Err(status) => Answer::Refused(status),
+        }
+    }
+
+    fn fault(&mut self, host: u8) -> Answer {
+        match self.device.fault(host) {
+            Ok(Some(fault)) => Answer::Fault(fault),
+            Ok(None) => Answer::Done,
+            Err(status) => Answer::Refused(status),
+        }
+    }
+
+    fn parameters(&self, host: u8) -> Answer {
+        match self.device.parameters(host) {
+            Ok(parameters) => Answer::Parameters(parameters),
+            Err(status) => Answer::Refused(status),
+        }
+    }
+
+    fn locks(&self, host: u8) -> Answer {
+        match self.device.locks(host) {
+            Ok(locks) => Answer::Locks(locks),
+            Err(status) => Answer::Refused(status),
+        }
+    }
+}
