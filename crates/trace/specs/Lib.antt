@@ -1,3 +1,5 @@
 pub mod Answers
-pub mod Calls
 pub mod Endings
+pub mod Entries
+pub mod Heads
+pub mod Reading

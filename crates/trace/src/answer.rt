@@ -1,5 +1,6 @@
-ghost use Rattle.std.specs.Prelude.{◌≡◌};
-ghost use Rattle.trace.specs.Answers.{unit_bits};
+ghost use Rattle.std.specs.Prelude.{◌≡◌, [], ◌∷◌};
+ghost use Rattle.std.specs.Int.{w64, to_be_bytes};
+ghost use Rattle.trace.specs.Answers.{answer_bytes, fault_bytes, filled, handed, kind_number, locks_bytes, parameters_bytes, status_bytes, unit_bits};
 
 use device::ticket::Ticket;
 use flex::status::Status;
@@ -31,7 +32,9 @@ pub enum Answer {
 
 impl Answer {
     /// The host now has this ticket.
-    pub(super) fn handed(ticket: &Ticket) -> Answer {
+    pub(super) fn handed(ticket: &Ticket) -> Answer
+        ensures { result ≡ handed ticket.now }
+    {
         match ticket {
             Ticket::Execution(_) => Answer::Execution,
             Ticket::Report(_) => Answer::Report,
@@ -39,7 +42,9 @@ impl Answer {
     }
 
     /// Its bytes: the number of what it is, then what it tells, then zeros.
-    pub fn bytes(&self) -> [u8; ANSWER_BYTES] {
+    pub fn bytes(&self) -> [u8; ANSWER_BYTES]
+        ensures { result ≡ answer_bytes self.now }
+    {
         match self {
             Answer::Refused(status) => status_bytes(0, *status),
             Answer::Done => bare_bytes(1),
@@ -56,20 +61,26 @@ impl Answer {
 }
 
 /// An answer that tells no more than what it is.
-fn bare_bytes(number: u8) -> [u8; ANSWER_BYTES] {
+fn bare_bytes(number: u8) -> [u8; ANSWER_BYTES]
+    ensures { result ≡ filled (number ∷ []) }
+{
     let mut bytes = [0; ANSWER_BYTES];
     bytes[0] = number;
     bytes
 }
 
-fn status_bytes(number: u8, status: Status) -> [u8; ANSWER_BYTES] {
+fn status_bytes(number: u8, status: Status) -> [u8; ANSWER_BYTES]
+    ensures { result ≡ status_bytes number status }
+{
     let mut bytes = bare_bytes(number);
     bytes[1] = status.group();
     bytes[2] = status.code();
     bytes
 }
 
-fn fault_bytes(fault: HostFault) -> [u8; ANSWER_BYTES] {
+fn fault_bytes(fault: HostFault) -> [u8; ANSWER_BYTES]
+    ensures { result ≡ fault_bytes fault }
+{
     let mut bytes = bare_bytes(6);
     bytes[1] = kind_number(fault.fault.store.kind);
     bytes[2..6].copy_from_slice(&fault.fault.store.block.to_be_bytes());
@@ -78,7 +89,9 @@ fn fault_bytes(fault: HostFault) -> [u8; ANSWER_BYTES] {
     bytes
 }
 
-fn parameters_bytes(parameters: Parameters) -> [u8; ANSWER_BYTES] {
+fn parameters_bytes(parameters: Parameters) -> [u8; ANSWER_BYTES]
+    ensures { result ≡ parameters_bytes parameters }
+{
     let mut bytes = bare_bytes(7);
     bytes[1] = parameters.unit;
     bytes[2..6].copy_from_slice(&parameters.address.to_be_bytes());
@@ -86,21 +99,27 @@ fn parameters_bytes(parameters: Parameters) -> [u8; ANSWER_BYTES] {
     bytes
 }
 
-fn locks_bytes(locks: &Locks) -> [u8; ANSWER_BYTES] {
+fn locks_bytes(locks: &Locks) -> [u8; ANSWER_BYTES]
+    ensures { result ≡ locks_bytes locks.now }
+{
     let mut bytes = bare_bytes(8);
     bytes[1] = u8::from(locks.device);
     bytes[2..4].copy_from_slice(&unit_bits(locks).to_be_bytes());
     bytes
 }
 
-fn activity_bytes(count: u64) -> [u8; ANSWER_BYTES] {
+fn activity_bytes(count: u64) -> [u8; ANSWER_BYTES]
+    ensures { result ≡ filled (9 ∷ to_be_bytes w64 count) }
+{
     let mut bytes = bare_bytes(9);
     bytes[1..9].copy_from_slice(&count.to_be_bytes());
     bytes
 }
 
 /// The number that a fault's kind has in an answer.
-fn kind_number(kind: FaultKind) -> u8 {
+fn kind_number(kind: FaultKind) -> u8
+    ensures { result ≡ kind_number kind }
+{
     match kind {
         FaultKind::Length => 0,
         FaultKind::Beyond => 1,

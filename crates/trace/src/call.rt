@@ -1,5 +1,6 @@
-ghost use Rattle.std.specs.Prelude.{◌≡◌, ◌<◌, ◌≤◌, length, IfSome};
-ghost use Rattle.trace.specs.Calls.{buffer_size};
+ghost use Rattle.std.specs.Prelude.{◌≡◌, ◌<◌, length, IfSome};
+ghost use Rattle.std.specs.Option.{option_map};
+ghost use Rattle.trace.specs.Entries.{buffer_size, entry, entry_in, message_in};
 
 use super::filling::Filling;
 use super::number::split_u16;
@@ -21,7 +22,7 @@ pub enum Call<'t> {
 
 /// A command's message, and the bytes after it.
 fn split_message(bytes: &[u8]) -> Option<(&[u8], &[u8])>
-    ensures { IfSome result (λ p. length p.1.now ≤ length bytes.now) }
+    ensures { option_map (λ p. (p.0.now, p.1.now)) result ≡ message_in bytes.now }
 {
     let (length, rest) = split_u16(bytes)?;
     rest.split_at_checked(usize::from(length))
@@ -30,7 +31,8 @@ fn split_message(bytes: &[u8]) -> Option<(&[u8], &[u8])>
 impl<'t> Call<'t> {
     /// The call at the front of a trace, and the bytes after it; or none where it is not whole, or of no kind.
     pub fn split(trace: &'t [u8]) -> Option<(Call<'t>, &'t [u8])>
-        ensures { IfSome result (λ p. length p.1.now < length trace.now) }
+        ensures is { option_map (λ p. (entry p.0, p.1.now)) result ≡ entry_in trace.now }
+        ensures shorter { IfSome result (λ p. length p.1.now < length trace.now) }
     {
         let [kind, host, rest @ ..] = trace else {
             return None;
@@ -62,7 +64,7 @@ impl<'t> Call<'t> {
 
     /// How many bytes the buffer of the call has; a call that lends none has none.
     pub fn buffer_size(&self) -> usize
-        ensures { result ≡ buffer_size self.now }
+        ensures { result ≡ buffer_size (entry self.now) }
     {
         match self {
             Call::Segment { host: _, filling } | Call::Report { host: _, filling } => {

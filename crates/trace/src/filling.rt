@@ -1,4 +1,4 @@
-ghost use Rattle.std.specs.Prelude.{◌≡◌, ◌≤◌, length, IfSome};
+ghost use Rattle.std.specs.Prelude.{◌≡◌, ◌≤◌, ◌++◌, length, drop};
 
 use super::number::split_u32;
 
@@ -11,9 +11,12 @@ pub struct Filling<'t> {
 }
 
 impl<'t> Filling<'t> {
+    ghost use Rattle.std.specs.Option.{option_map};
+    ghost use Rattle.trace.specs.Entries.{lent, lent_in};
+
     /// The filling at the front of bytes, and the bytes after it; or none where it is not whole.
     pub(super) fn split(bytes: &'t [u8]) -> Option<(Filling<'t>, &'t [u8])>
-        ensures { IfSome result (λ p. length p.1.now ≤ length bytes.now) }
+        ensures { option_map (λ p. (lent p.0, p.1.now)) result ≡ lent_in bytes.now }
     {
         let (size, rest) = split_u32(bytes)?;
         let (count, rest) = split_u32(rest)?;
@@ -34,6 +37,7 @@ impl<'t> Filling<'t> {
     /// Lays the given bytes into the front of the buffer.
     pub(super) fn lay(self, buffer: &mut [u8])
         requires { self.size ≤ length buffer.old }
+        ensures { buffer.new ≡ self.entry.given.now ++ drop (length self.entry.given.now) buffer.old }
     {
         buffer[..self.given.len()].copy_from_slice(self.given);
     }

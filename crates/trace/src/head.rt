@@ -1,9 +1,13 @@
+ghost use Rattle.std.specs.Prelude.{◌≡◌};
+ghost use Rattle.std.specs.Option.{option_map};
+ghost use Rattle.flex.specs.Maps.{Makes};
+ghost use Rattle.trace.specs.Heads.{head_in, heading, unit_of};
+
 use super::number::split_u32;
 use flex::geometry::Geometry;
 use flex::status::Status;
 use flex::unit::Unit;
 use flex::unit_map::{UNITS, UnitMap};
-use std::array;
 
 /// How many bytes a unit has in a head.
 const UNIT_BYTES: usize = 8;
@@ -27,7 +31,9 @@ pub struct Head<'t> {
 }
 
 /// The unit that eight bytes tell.
-fn unit(bytes: [u8; UNIT_BYTES]) -> Unit {
+fn unit(bytes: [u8; UNIT_BYTES]) -> Unit
+    ensures { result ≡ unit_of bytes }
+{
     let [a, b, c, d, e, f, heads, sectors] = bytes;
     Unit {
         first: u32::from_be_bytes([a, b, c, d]),
@@ -41,7 +47,9 @@ fn unit(bytes: [u8; UNIT_BYTES]) -> Unit {
 
 impl<'t> Head<'t> {
     /// The head at the front of a trace, and the calls after it; or none where it is not whole.
-    pub fn split(trace: &'t [u8]) -> Option<(Head<'t>, &'t [u8])> {
+    pub fn split(trace: &'t [u8]) -> Option<(Head<'t>, &'t [u8])>
+        ensures { option_map (λ p. (heading p.0, p.1.now)) result ≡ head_in trace.now }
+    {
         let (device, rest) = split_u32(trace)?;
         let (end, rest) = split_u32(rest)?;
         let (count, rest) = rest.split_first()?;
@@ -51,19 +59,24 @@ impl<'t> Head<'t> {
     }
 
     /// The device's number.
-    pub fn device(self) -> u32 {
+    pub fn device(self) -> u32
+        ensures { result ≡ self.entry.device }
+    {
         self.device
     }
 
     /// The map of the units, with the stated end; or 128/1.
-    pub fn map(self) -> Result<UnitMap, Status> {
-        if self.units.len() > UNITS {
+    pub fn map(self) -> Result<UnitMap, Status>
+        ensures { Makes (heading self.entry).units self.entry.end result }
+    {
+        let count = self.units.len();
+        if count > UNITS {
             return Err(Status::BadUnitMap);
         }
-        let units: [Unit; UNITS] = array::from_fn(|place| self
-            .units
-            .get(place)
-            .map_or(BLANK, |bytes| unit(*bytes)));
-        UnitMap::new(&units[..self.units.len()], self.end)
+        let mut units = [BLANK; UNITS];
+        for (place, bytes) in self.units.iter().enumerate() {
+            units[place] = unit(*bytes);
+        }
+        UnitMap::new(&units[..count], self.end)
     }
 }

@@ -1,5 +1,5 @@
 ghost use Rattle.std.specs.Prelude.{◌≡◌, ◌<◌, ◌≤◌, ◌^◌, length, IfSome};
-ghost use Rattle.trace.specs.Calls.{buffer_size};
+ghost use Rattle.trace.specs.Entries.{buffer_size, entry};
 
 use super::answer::{ANSWER_BYTES, Answer};
 use super::call::Call;
@@ -26,7 +26,7 @@ impl<S: Store> Player<S> {
 
     /// Makes a call, and tells what it answers. The buffer is the one that the call lends.
     pub(super) fn make(&mut self, call: Call<'_>, buffer: &mut [u8]) -> Answer
-        requires { buffer_size call ≤ length buffer.old }
+        requires { buffer_size (entry call) ≤ length buffer.old }
     {
         match call {
             Call::Command { host, message } => self.command(host, message),
