@@ -3,3 +3,4 @@ pub mod Endings
 pub mod Entries
 pub mod Heads
 pub mod Reading
+pub mod Worlds

@@ -1,4 +1,9 @@
 ghost use Rattle.std.specs.Prelude.{◌≡◌, ◌<◌, ◌≤◌, ◌^◌, length, IfSome};
+ghost use Rattle.device.specs.Calls as calls;
+ghost use Rattle.device.specs.Device.{locks_of, parameters_of, state};
+ghost use Rattle.desk.specs.Desks.{empty_desk, held};
+ghost use Rattle.trace.specs.Answers.{handed};
+ghost use Rattle.trace.specs.Worlds.{at_end, by_call, by_cancel, by_report, by_segment, comes_to, locks_told, made, parameters_told, with_ticket, world};
 ghost use Rattle.trace.specs.Entries.{buffer_size, entry};
 
 use super::answer::{ANSWER_BYTES, Answer};
@@ -17,7 +22,9 @@ pub struct Player<S> {
 
 impl<S: Store> Player<S> {
     /// A device whose hosts hold no ticket.
-    pub(super) fn new(device: Device<S>) -> Player<S> {
+    pub(super) fn new(device: Device<S>) -> Player<S>
+        ensures { world S.Store.blocks result ≡ record { state = state S.Store.blocks device; desk = empty_desk } }
+    {
         Player {
             device,
             desk: Desk::new(),
@@ -27,6 +34,7 @@ impl<S: Store> Player<S> {
     /// Makes a call, and tells what it answers. The buffer is the one that the call lends.
     pub(super) fn make(&mut self, call: Call<'_>, buffer: &mut [u8]) -> Answer
         requires { buffer_size (entry call) ≤ length buffer.old }
+        ensures { comes_to result buffer.new (world S.Store.blocks self.new) ≡ made (world S.Store.blocks self.old) (entry call.entry) buffer.old }
     {
         match call {
             Call::Command { host, message } => self.command(host, message),
@@ -82,35 +90,47 @@ impl<S: Store> Player<S> {
     }
 
     /// Cancels the tickets that are still open, powers the device off, and hands back its store.
-    pub(super) fn power_off(self) -> S {
+    pub(super) fn power_off(self) -> S
+        ensures same { S.Store.blocks result ≡ (at_end (world S.Store.blocks self)).blocks }
+        ensures settled { S.Store.settled result }
+        ensures holds { S.Store.stored result ≡ (at_end (world S.Store.blocks self)).blocks }
+    {
         let Player { mut device, desk } = self;
         desk.close(&mut device);
         device.power_off()
     }
 
     /// Keeps a ticket for a host, and tells of which kind it is.
-    fn hand(&mut self, host: u8, ticket: Ticket) -> Answer {
+    fn hand(&mut self, host: u8, ticket: Ticket) -> Answer
+        ensures answer { result ≡ handed ticket }
+        ensures after { world S.Store.blocks self.new ≡ with_ticket (world S.Store.blocks self.old) host ticket }
+    {
         let answer = Answer::handed(&ticket);
         self.desk.put(&mut self.device, host, ticket);
         answer
     }
 
-    /// Keeps what a host has in place of the ticket that a call takes.
-    fn keep(&mut self, host: u8, ticket: Option<Ticket>) -> Answer {
-        if let Some(ticket) = ticket {
-            self.desk.put(&mut self.device, host, ticket);
-        }
+    /// Keeps a ticket that is not of the kind that a call takes.
+    fn keep(&mut self, host: u8, ticket: Ticket) -> Answer
+        ensures answer { result ≡ Answer.NoTicket }
+        ensures after { world S.Store.blocks self.new ≡ with_ticket (world S.Store.blocks self.old) host ticket }
+    {
+        self.desk.put(&mut self.device, host, ticket);
         Answer::NoTicket
     }
 
-    fn command(&mut self, host: u8, message: &[u8]) -> Answer {
+    fn command(&mut self, host: u8, message: &[u8]) -> Answer
+        ensures { (result, world S.Store.blocks self.new) ≡ by_call (world S.Store.blocks self.old) host (calls.command host message.now) }
+    {
         match self.device.command(host, message) {
             Ok(ticket) => self.hand(host, ticket),
             Err(status) => Answer::Refused(status),
         }
     }
 
-    fn segment(&mut self, host: u8, buffer: &mut [u8]) -> Answer {
+    fn segment(&mut self, host: u8, buffer: &mut [u8]) -> Answer
+        ensures { comes_to result buffer.new (world S.Store.blocks self.new) ≡ by_segment (world S.Store.blocks self.old) host (held self.old.desk host) buffer.old }
+    {
         match self.desk.take(host) {
             Some(Ticket::Execution(ticket)) => match self.device.segment(ticket, buffer) {
                 Ok(ticket) => self.hand(host, ticket),
@@ -120,11 +140,14 @@ impl<S: Store> Player<S> {
                     Answer::Refused(status)
                 }
             },
-            other => self.keep(host, other),
+            Some(Ticket::Report(ticket)) => self.keep(host, Ticket::Report(ticket)),
+            None => Answer::NoTicket,
         }
     }
 
-    fn report(&mut self, host: u8, buffer: &mut [u8]) -> Answer {
+    fn report(&mut self, host: u8, buffer: &mut [u8]) -> Answer
+        ensures { comes_to result buffer.new (world S.Store.blocks self.new) ≡ by_report (world S.Store.blocks self.old) host (held self.old.desk host) buffer.old }
+    {
         match self.desk.take(host) {
             Some(Ticket::Report(ticket)) => match self.device.report(ticket, buffer) {
                 Ok(()) => Answer::Done,
@@ -134,11 +157,14 @@ impl<S: Store> Player<S> {
                     Answer::Refused(status)
                 }
             },
-            other => self.keep(host, other),
+            Some(Ticket::Execution(ticket)) => self.keep(host, Ticket::Execution(ticket)),
+            None => Answer::NoTicket,
         }
     }
 
-    fn cancel(&mut self, host: u8) -> Answer {
+    fn cancel(&mut self, host: u8) -> Answer
+        ensures { (result, world S.Store.blocks self.new) ≡ by_cancel (world S.Store.blocks self.old) host (held self.old.desk host) }
+    {
         let Some(ticket) = self.desk.take(host) else {
             return Answer::NoTicket;
         };
@@ -151,14 +177,18 @@ impl<S: Store> Player<S> {
         }
     }
 
-    fn clear(&mut self, host: u8) -> Answer {
+    fn clear(&mut self, host: u8) -> Answer
+        ensures { (result, world S.Store.blocks self.new) ≡ by_call (world S.Store.blocks self.old) host (calls.clear host) }
+    {
         match self.device.clear(host) {
             Ok(()) => Answer::Done,
             Err(status) => Answer::Refused(status),
         }
     }
 
-    fn notice(&mut self, host: u8) -> Answer {
+    fn notice(&mut self, host: u8) -> Answer
+        ensures { (result, world S.Store.blocks self.new) ≡ by_call (world S.Store.blocks self.old) host (calls.notice host) }
+    {
         match self.device.notice(host) {
             Ok(Some(status)) => Answer::Notice(status),
             Ok(None) => Answer::Done,
@@ -166,7 +196,9 @@ impl<S: Store> Player<S> {
         }
     }
 
-    fn fault(&mut self, host: u8) -> Answer {
+    fn fault(&mut self, host: u8) -> Answer
+        ensures { (result, world S.Store.blocks self.new) ≡ by_call (world S.Store.blocks self.old) host (calls.fault host) }
+    {
         match self.device.fault(host) {
             Ok(Some(fault)) => Answer::Fault(fault),
             Ok(None) => Answer::Done,
@@ -174,14 +206,18 @@ impl<S: Store> Player<S> {
         }
     }
 
-    fn parameters(&self, host: u8) -> Answer {
+    fn parameters(&self, host: u8) -> Answer
+        ensures { result ≡ parameters_told (parameters_of self.now.device.controller host) }
+    {
         match self.device.parameters(host) {
             Ok(parameters) => Answer::Parameters(parameters),
             Err(status) => Answer::Refused(status),
         }
     }
 
-    fn locks(&self, host: u8) -> Answer {
+    fn locks(&self, host: u8) -> Answer
+        ensures { result ≡ locks_told (locks_of self.now.device.controller host) }
+    {
         match self.device.locks(host) {
             Ok(locks) => Answer::Locks(locks),
             Err(status) => Answer::Refused(status),
