@@ -1,3 +1,4 @@
 mod Bits
 mod Headings
 mod Keeping
+mod Rooms

@@ -46,7 +46,7 @@ abbrev pub locks_bytes : Locks → List ℕ
 locks_bytes l = filled (8 ∷ (if l.device then 1 else 0) ∷ to_be_bytes w16 (unit_bits l.units))
 
 -- The first byte says what an answer is.
-abbrev pub answer_bytes : Answer → List ℕ
+unfoldable pub answer_bytes : Answer → List ℕ
 answer_bytes (answers.Refused status) = status_bytes 0 status
 answer_bytes answers.Done = filled (1 ∷ [])
 answer_bytes answers.Execution = filled (2 ∷ [])

@@ -1,4 +1,5 @@
 pub mod Answers
+pub mod Courses
 pub mod Endings
 pub mod Entries
 pub mod Heads

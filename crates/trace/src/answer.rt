@@ -42,6 +42,7 @@ impl Answer {
     }
 
     /// Its bytes: the number of what it is, then what it tells, then zeros.
+    #[tactic(auto, unfolding(crate::specs::Answers::answer_bytes))]
     pub fn bytes(&self) -> [u8; ANSWER_BYTES]
         ensures { result ≡ answer_bytes self.now }
     {

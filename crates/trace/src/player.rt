@@ -1,9 +1,10 @@
-ghost use Rattle.std.specs.Prelude.{◌≡◌, ◌<◌, ◌≤◌, ◌^◌, length, IfSome};
+ghost use Rattle.std.specs.Prelude.{◌≡◌, ◌<◌, ◌≤◌, ◌^◌, length, drop, if◌then◌else◌};
 ghost use Rattle.device.specs.Calls as calls;
 ghost use Rattle.device.specs.Device.{locks_of, parameters_of, state};
 ghost use Rattle.desk.specs.Desks.{empty_desk, held};
 ghost use Rattle.trace.specs.Answers.{handed};
 ghost use Rattle.trace.specs.Worlds.{at_end, by_call, by_cancel, by_report, by_segment, comes_to, locks_told, made, parameters_told, with_ticket, world};
+ghost use Rattle.trace.specs.Courses.{has_room, made_in, room_for, written_in};
 ghost use Rattle.trace.specs.Entries.{buffer_size, entry};
 
 use super::answer::{ANSWER_BYTES, Answer};
@@ -32,6 +33,7 @@ impl<S: Store> Player<S> {
     }
 
     /// Makes a call, and tells what it answers. The buffer is the one that the call lends.
+    #[tactic(auto, unfolding(crate::specs::Worlds::made))]
     pub(super) fn make(&mut self, call: Call<'_>, buffer: &mut [u8]) -> Answer
         requires { buffer_size (entry call) ≤ length buffer.old }
         ensures { comes_to result buffer.new (world S.Store.blocks self.new) ≡ made (world S.Store.blocks self.old) (entry call.entry) buffer.old }
@@ -59,7 +61,9 @@ impl<S: Store> Player<S> {
     /// Makes a call and writes its answer, and behind it the buffer that it lends, into the front of the room; tells how
     /// many bytes that was, or none where the room is too small.
     fn step(&mut self, call: Call<'_>, room: &mut [u8]) -> Option<usize>
-        ensures { IfSome result (λ n. n ≤ length room.old) }
+        ensures size { result ≡ (if has_room (entry call.entry) room.old then Some (room_for (entry call.entry)) else None) }
+        ensures room { room.new ≡ (if has_room (entry call.entry) room.old then written_in (made_in (world S.Store.blocks self.old) (entry call.entry) room.old) (drop (room_for (entry call.entry)) room.old) else room.old) }
+        ensures after { world S.Store.blocks self.new ≡ (if has_room (entry call.entry) room.old then (made_in (world S.Store.blocks self.old) (entry call.entry) room.old).world else world S.Store.blocks self.old) }
     {
         let end = ANSWER_BYTES + call.buffer_size();
         if room.len() < end {
