@@ -2,3 +2,5 @@ mod Bits
 mod Headings
 mod Keeping
 mod Rooms
+mod Readings
+mod Coursing

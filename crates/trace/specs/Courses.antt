@@ -13,14 +13,15 @@ pub record Reading : Type 0 where
   pub entries : List Entry
   pub whole : Bool
 
-abbrev pub behind : Entry → Reading → Reading
-behind e r = record { entries = e ∷ r.entries; whole = r.whole }
+abbrev pub read_next : (List ℕ → Reading) → Option (Entry × List ℕ) → Reading
+read_next others None = record { entries = []; whole = false }
+read_next others (Some p) = record { entries = p.0 ∷ (others p.1).entries; whole = (others p.1).whole }
 
--- Each entry has at least one byte, so no more are read than there are bytes.
+-- Each entry has at least one byte, so as many turns as there are bytes are enough.
 abbrev pub read : ℕ → List ℕ → Reading
 read n [] = record { entries = []; whole = true }
 read zero (byte ∷ bytes) = record { entries = []; whole = false }
-read (suc n) (byte ∷ bytes) = elim (entry_in (byte ∷ bytes)) [ None ↦ record { entries = []; whole = false } | Some p ↦ behind p.0 (read n p.1) ]
+read (suc n) (byte ∷ bytes) = read_next (λ others. read n others) (entry_in (byte ∷ bytes))
 
 unfoldable pub reading : List ℕ → Reading
 reading bytes = read (length bytes) bytes

@@ -4,7 +4,7 @@ ghost use Rattle.device.specs.Device.{locks_of, parameters_of, state};
 ghost use Rattle.desk.specs.Desks.{empty_desk, held};
 ghost use Rattle.trace.specs.Answers.{handed};
 ghost use Rattle.trace.specs.Worlds.{at_end, by_call, by_cancel, by_report, by_segment, comes_to, locks_told, made, parameters_told, with_ticket, world};
-ghost use Rattle.trace.specs.Courses.{has_room, made_in, room_for, written_in};
+ghost use Rattle.trace.specs.Courses.{course, has_room, made_in, room_for, runs_to, written_in};
 ghost use Rattle.trace.specs.Entries.{buffer_size, entry};
 
 use super::answer::{ANSWER_BYTES, Answer};
@@ -77,6 +77,7 @@ impl<S: Store> Player<S> {
     /// Makes the calls of a trace, until it ends or one cannot be made.
     pub(super) fn run(&mut self, calls: &[u8], output: &mut [u8]) -> Ending
         requires { length output.old < 2 ^ 56 }
+        ensures { runs_to (world S.Store.blocks self.new) output.new result ≡ course (world S.Store.blocks self.old) calls.now output.old }
     {
         let mut left = calls;
         let mut written = 0;
