@@ -4,3 +4,4 @@ mod Keeping
 mod Rooms
 mod Readings
 mod Coursing
+mod Playing

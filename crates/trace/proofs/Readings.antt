@@ -81,8 +81,8 @@ read_enough (suc n) (suc m) (byte ∷ bytes) h k =
     as (λ o. entry_in (byte ∷ bytes) ≡ o → read_next (λ others. read n others) o ≡ read_next (λ others. read m others) o) [
       | None ↦ λ e. refl
       | Some p ↦ λ e.
-        let less = shorter (byte ∷ bytes) p.1 p.0 e in
-        ap (λ (r : Reading). let s : Reading = record { entries = p.0 ∷ r.entries; whole = r.whole } in s) (read_enough n m p.1 (omega arith) (omega arith))
+          let less = shorter (byte ∷ bytes) p.1 p.0 e in
+          ap (λ (r : Reading). let s : Reading = record { entries = p.0 ∷ r.entries; whole = r.whole } in s) (read_enough n m p.1 (omega arith) (omega arith))
     ] refl
 
 -- ---- The reading of a trace, by its first entry.

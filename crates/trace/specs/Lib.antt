@@ -5,3 +5,4 @@ pub mod Entries
 pub mod Heads
 pub mod Reading
 pub mod Worlds
+pub mod Plays

@@ -1,3 +1,7 @@
+ghost use Rattle.std.specs.Prelude.{◌≡◌, ◌≢◌};
+ghost use Rattle.trace.specs.Heads.{heading};
+ghost use Rattle.trace.specs.Plays.{Plays, tells};
+
 use super::ending::{Ending, How, MOST_WRITTEN};
 use super::head::Head;
 use super::player::Player;
@@ -11,7 +15,10 @@ pub struct Played<S> {
 }
 
 /// Powers a device on over a store, makes the calls of a trace, and powers it off.
-pub fn play<S: Store>(store: S, head: Head<'_>, calls: &[u8], output: &mut [u8]) -> Played<S> {
+pub fn play<S: Store>(store: S, head: Head<'_>, calls: &[u8], output: &mut [u8]) -> Played<S>
+    ensures plays { Plays (heading head.entry) calls.now (S.Store.blocks store) output.old (tells (S.Store.blocks result.store) output.new result.ending) }
+    ensures settled { result.ending.how ≢ How.NoMap → S.Store.settled result.store }
+{
     let Ok(map) = head.map() else {
         return Played {
             store,
