@@ -55,3 +55,9 @@ abbrev pub PlaysAll : Option (Heading × List ℕ) → Option Refusal → List B
 PlaysAll None refusal blocks output o = o ≡ refused hows.NoHead blocks output
 PlaysAll (Some p) (Some refusal) blocks output o = o ≡ refused hows.NoImage blocks output
 PlaysAll (Some p) None blocks output o = Plays p.0 p.1 blocks output o
+
+-- And what is seen of it outside, where the store is handed to no one: the output before and after, and how it ended.
+pub record Told (head : Option (Heading × List ℕ)) (refusal : Option Refusal) (blocks : List Block) (before after : List ℕ) (ending : Ending) : Type 0 where
+  -- the blocks that the store means afterwards
+  pub left : List Block
+  pub plays : PlaysAll head refusal blocks before (tells left after ending)

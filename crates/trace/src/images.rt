@@ -1,3 +1,11 @@
+ghost use Rattle.std.specs.Prelude.{◌≡◌, length};
+ghost use Rattle.flat.specs.Flat.{flat_offered, flat_refusal};
+ghost use Rattle.raw.specs.Raw.{raw_offered, raw_refusal};
+ghost use Rattle.layer.specs.Guards.{guard};
+ghost use Rattle.layer.specs.Windows.{window};
+ghost use Rattle.trace.specs.Heads.{head_in};
+ghost use Rattle.trace.specs.Plays.{Told};
+
 use super::ending::{Ending, How};
 use super::head::Head;
 use super::play::{Played, play};
@@ -10,7 +18,9 @@ use raw::raw::RawImage;
 use store::fault::Protection;
 
 /// Plays a trace over a flat image.
-pub fn play_flat(image: &mut [u8], damage: &mut [u8], trace: &[u8], output: &mut [u8]) -> Ending {
+pub fn play_flat(image: &mut [u8], damage: &mut [u8], trace: &[u8], output: &mut [u8]) -> Ending
+    ensures { Told (head_in trace.now) (flat_refusal (length image.old) (length damage.old)) (flat_offered image.old damage.old Protection.Open) output.old output.new result }
+{
     let Some((head, calls)) = Head::split(trace) else {
         return Ending::refused(How::NoHead);
     };
@@ -29,7 +39,9 @@ pub fn play_raw(
     records: u32,
     trace: &[u8],
     output: &mut [u8],
-) -> Ending {
+) -> Ending
+    ensures { Told (head_in trace.now) (raw_refusal (length image.old) spares.now records) (raw_offered image.old spares.now records Protection.Open) output.old output.new result }
+{
     let Some((head, calls)) = Head::split(trace) else {
         return Ending::refused(How::NoHead);
     };
@@ -49,7 +61,9 @@ pub fn play_pile(
     guarded: Run,
     trace: &[u8],
     output: &mut [u8],
-) -> Ending {
+) -> Ending
+    ensures { Told (head_in trace.now) (flat_refusal (length image.old) (length damage.old)) (guard (window (flat_offered image.old damage.old Protection.Open) shown) guarded) output.old output.new result }
+{
     let Some((head, calls)) = Head::split(trace) else {
         return Ending::refused(How::NoHead);
     };
