@@ -1,4 +1,4 @@
-use Rattle.std.proofs.Common.{sym, ◌∙◌}
+use Rattle.std.proofs.Common.{drop, sym, ◌∙◌}
 use Rattle.trace.specs.Entries.{entry}
 use Rattle.trace.specs.Worlds.{world}
 use Rattle.trace.specs.Courses.{course}
@@ -8,7 +8,7 @@ use Rattle.trace.proofs.player.Player.run.Goals as goal
 pub returns-in_default : goal.returns-in_default
 returns-in_default g c =
     let w = world g.S.Store.blocks c.loop-left.self in
-    let is = course_none w c.loop-left.left.now _ c.loop-left-test.ensures (sym c.in_default.ensures.is) in
+    let is = course_none w c.loop-left.left.now (drop c.loop-left.written c.loop-left.output) c.loop-left-test.ensures (sym c.in_default.ensures.is) in
     ended_as _ _ _ _ _ _ c.after.ensures.how c.after.ensures.written
     ∙ stopped w c.loop-left.output c.loop-left.written _ _ _ c.loop-left.invariant.inside is c.loop-left.invariant.so_far
 
@@ -33,6 +33,6 @@ loop-left-preserved g c =
 pub returns : goal.returns
 returns g c =
     let w = world g.S.Store.blocks c.loop-left.self in
-    let is = course_nothing w c.loop-left.left.now _ c.loop-left-test.ensures in
+    let is = course_nothing w c.loop-left.left.now (drop c.loop-left.written c.loop-left.output) c.loop-left-test.ensures in
     ended_as _ _ _ _ _ _ c.after-2.ensures.how c.after-2.ensures.written
     ∙ stopped w c.loop-left.output c.loop-left.written _ _ _ c.loop-left.invariant.inside is c.loop-left.invariant.so_far
