@@ -1,5 +1,5 @@
 -- What the device says of a call, as an entry hands it on; and a ticket that is taken and kept again.
-use Rattle.std.proofs.Common.{◌≡◌, ℕ, zero, suc, Bool, true, false, cond, List, [], ◌∷◌, Some, None, Option, nat_lt, slice_index_or, slice_set, refl, ap, sym, ◌∙◌}
+use Rattle.std.proofs.Common.{◌≡◌, ℕ, zero, suc, true, false, cond, List, [], ◌∷◌, Some, None, Option, nat_lt, slice_index_or, slice_set, refl, ap, sym, ◌∙◌}
 use Rattle.std.proofs.lemmas.List.{set-get_or, set-set}
 use Rattle.device.specs.declared.ticket.ExecutionTicket.{ExecutionTicket}
 use Rattle.device.specs.declared.ticket.ReportTicket.{ReportTicket}
@@ -11,7 +11,7 @@ use Rattle.desk.specs.declared.desk.Desk.{Desk}
 use Rattle.desk.specs.Desks.{held, with_slot, given_up, ended}
 use Rattle.trace.specs.declared.answer.Answer.{Answer}
 use Rattle.trace.specs.declared.answer.Answer.TheVariants.{NoTicket}
-use Rattle.trace.specs.Worlds.{no_ticket, World, ticket_in, told, buffer_in, with_any_ticket, without_ticket, by_call, by_lending, by_segment, by_report, by_cancel, comes_to, Made, beside}
+use Rattle.trace.specs.Worlds.{no_ticket, World, ticket_in, told, buffer_in, with_any_ticket, without_ticket, by_call, by_lending, by_segment, by_report, by_cancel, comes_to, beside}
 
 said : (s t : State) (c : calls.Call) (a : calls.Answer) → (a, t) ≡ after s c → ◌≡◌ {A = calls.Answer × State} (a, t) (answer s c, next s c)
 unfolding answer next

@@ -1,10 +1,10 @@
 -- A trace is read entry by entry. Each takes at least a byte, so any number of turns that is enough reads the same.
-use Rattle.std.proofs.Common.{◌≡◌, ℕ, zero, suc, ◌+◌, ◌<◌, ◌≤◌, Bool, true, false, cond, List, [], ◌∷◌, length, take, drop, Some, None, Option, ◌==◌, nat_le, refl, ap, sym, subst, ◌∙◌, arith}
+use Rattle.std.proofs.Common.{◌≡◌, ℕ, zero, suc, ◌<◌, ◌≤◌, Bool, true, false, cond, List, [], ◌∷◌, length, Some, None, Option, ◌==◌, nat_le, refl, ap, sym, subst, ◌∙◌, arith}
 use Rattle.std.specs.Option.{option_map}
 use Rattle.std.specs.Int.{w16, w32, from_be_bytes}
 use Rattle.std.proofs.lemmas.List.{length-drop}
 use Rattle.trace.specs.Reading.{◌>>=◌, split, u16_in, u32_in}
-use Rattle.trace.specs.Entries.{Entry, message_in, Lent, lent_in, entry_by, entry_in}
+use Rattle.trace.specs.Entries.{Entry, message_in, lent_in, entry_by, entry_in}
 use Rattle.trace.specs.Courses.{Reading, read_next, read, reading}
 
 -- What is left is no longer than what there was.

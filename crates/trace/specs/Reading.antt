@@ -1,7 +1,7 @@
 -- Taking parts off the front of bytes: none where there are too few.
 use Rattle.std.specs.Prelude.{ℕ, cond, List, length, take, drop, Some, None, Option, option_and_then, nat_le}
 use Rattle.std.specs.Borrow.{Bor}
-use Rattle.std.specs.Int.{Width, w16, w32, byte_len, from_be_bytes}
+use Rattle.std.specs.Int.{w16, w32, from_be_bytes}
 use Rattle.std.specs.Option.{option_map}
 
 infixl 10 ◌>>=◌

@@ -24,10 +24,10 @@ pub fn play_flat(image: &mut [u8], damage: &mut [u8], trace: &[u8], output: &mut
     let Some((head, calls)) = Head::split(trace) else {
         return Ending::refused(How::NoHead);
     };
-    let Ok(image) = FlatImage::open(image, damage, Protection::Open) else {
+    let Ok(flat) = FlatImage::open(image, damage, Protection::Open) else {
         return Ending::refused(How::NoImage);
     };
-    let Played { store, ending } = play(image, head, calls, output);
+    let Played { store, ending } = play(flat, head, calls, output);
     drop(store);
     ending
 }
@@ -45,10 +45,10 @@ pub fn play_raw(
     let Some((head, calls)) = Head::split(trace) else {
         return Ending::refused(How::NoHead);
     };
-    let Ok(image) = RawImage::open(image, spares, records, Protection::Open) else {
+    let Ok(raw) = RawImage::open(image, spares, records, Protection::Open) else {
         return Ending::refused(How::NoImage);
     };
-    let Played { store, ending } = play(image, head, calls, output);
+    let Played { store, ending } = play(raw, head, calls, output);
     drop(store);
     ending
 }

@@ -1,4 +1,5 @@
 use Rattle.std.proofs.Common.{drop, sym, ◌∙◌}
+use Rattle.trace.specs.declared.ending.How.TheVariants as hows
 use Rattle.trace.specs.Entries.{entry}
 use Rattle.trace.specs.Worlds.{world}
 use Rattle.trace.specs.Courses.{course}
@@ -7,10 +8,12 @@ use Rattle.trace.proofs.player.Player.run.Goals as goal
 
 pub returns-in_default : goal.returns-in_default
 returns-in_default g c =
-    let w = world g.S.Store.blocks c.loop-left.self in
-    let is = course_none w c.loop-left.left.now (drop c.loop-left.written c.loop-left.output) c.loop-left-test.ensures (sym c.in_default.ensures.is) in
+    let means = g.S.Store.blocks in
+    let w = world means c.loop-left.self in
+    let tail = drop c.loop-left.written c.loop-left.output in
+    let is = course_none w c.loop-left.left.now tail c.loop-left-test.ensures (sym c.in_default.ensures.is) in
     ended_as _ _ _ _ _ _ c.after.ensures.how c.after.ensures.written
-    ∙ stopped w c.loop-left.output c.loop-left.written _ _ _ c.loop-left.invariant.inside is c.loop-left.invariant.so_far
+    ∙ stopped w c.loop-left.output c.loop-left.written hows.NoCall (course w c.loop-left.left.now tail) (course (world means c.args.self.now) c.args.calls.now c.args.output.now) c.loop-left.invariant.inside is c.loop-left.invariant.so_far
 
 pub returns-in_default-step : goal.returns-in_default-step
 returns-in_default-step g c =
@@ -32,7 +35,9 @@ loop-left-preserved g c =
 
 pub returns : goal.returns
 returns g c =
-    let w = world g.S.Store.blocks c.loop-left.self in
-    let is = course_nothing w c.loop-left.left.now (drop c.loop-left.written c.loop-left.output) c.loop-left-test.ensures in
+    let means = g.S.Store.blocks in
+    let w = world means c.loop-left.self in
+    let tail = drop c.loop-left.written c.loop-left.output in
+    let is = course_nothing w c.loop-left.left.now tail c.loop-left-test.ensures in
     ended_as _ _ _ _ _ _ c.after-2.ensures.how c.after-2.ensures.written
-    ∙ stopped w c.loop-left.output c.loop-left.written _ _ _ c.loop-left.invariant.inside is c.loop-left.invariant.so_far
+    ∙ stopped w c.loop-left.output c.loop-left.written hows.Whole (course w c.loop-left.left.now tail) (course (world means c.args.self.now) c.args.calls.now c.args.output.now) c.loop-left.invariant.inside is c.loop-left.invariant.so_far
