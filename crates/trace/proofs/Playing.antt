@@ -2,6 +2,8 @@
 use Rattle.std.proofs.Common.{◌≡◌, ℕ, List, ◌++◌, take, drop, Option, Some, None, Ok, ap, subst, ◌∙◌}
 use Rattle.store.specs.Blocks.{Block}
 use Rattle.flex.specs.declared.unit_map.UnitMap.{UnitMap}
+use Rattle.device.specs.Device.{State, power_on}
+use Rattle.desk.specs.Desks.{empty_desk}
 use Rattle.image.specs.declared.refusal.Refusal.{Refusal}
 use Rattle.trace.specs.declared.ending.Ending.{Ending}
 use Rattle.trace.specs.declared.ending.How.{How}
@@ -10,6 +12,13 @@ use Rattle.trace.specs.Heads.{Heading}
 use Rattle.trace.specs.Courses.{Course, course, runs_to}
 use Rattle.trace.specs.Worlds.{World, at_end}
 use Rattle.trace.specs.Plays.{Outcome, tells, at_start, used, over, outcome, Plays, PlaysAll, Told}
+
+-- The player at power on.
+pub started :
+    (player : World) (s : State) (number d : ℕ) (map : UnitMap) (blocks : List Block) → player ≡ record { state = s; desk = empty_desk } → s ≡ power_on d map blocks
+    → d ≡ number → player ≡ at_start number map blocks
+started player s number d map blocks is on same =
+    is ∙ ap (λ (x : State). let w : World = record { state = x; desk = empty_desk } in w) on ∙ ap (λ (n : ℕ). at_start n map blocks) same
 
 pub played_over :
     (map : UnitMap) (number : ℕ) (blocks left : List Block) (calls output out : List ℕ) (room : ℕ) (w v : World) (ending : Ending)
