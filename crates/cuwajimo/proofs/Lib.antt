@@ -3,5 +3,4 @@ mod Fills
 mod Hexadecimal
 mod Layers
 mod Refilled
-mod Tickets
 mod Troubles

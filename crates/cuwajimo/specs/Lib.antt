@@ -1,7 +1,6 @@
 pub mod Answers
 pub mod Bytes
 pub mod Calls
-pub mod Desks
 pub mod Fills
 pub mod Lines
 pub mod Media

@@ -5,7 +5,6 @@ mod buffer;
 mod build;
 mod call;
 mod case;
-mod desk;
 mod files;
 mod fill;
 mod fnv;

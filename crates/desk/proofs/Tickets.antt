@@ -1,8 +1,8 @@
 -- The eight hosts' tickets, ended one after the other.
 use Rattle.std.proofs.Common.{◌≡◌, ℕ, ap, ◌∙◌}
 use Rattle.device.specs.Device.{State}
-use Rattle.cuwajimo.specs.declared.desk.Desk.{Desk}
-use Rattle.cuwajimo.specs.Desks.{held, ended, all_ended}
+use Rattle.desk.specs.declared.desk.Desk.{Desk}
+use Rattle.desk.specs.Desks.{held, ended, all_ended}
 
 then_ended : {t u : State} (s : State) (desk : Desk) (host : ℕ) → u ≡ ended t (held desk host) → t ≡ s → u ≡ ended s (held desk host)
 then_ended s desk host e before = e ∙ ap (λ (state : State). ended state (held desk host)) before

@@ -1,6 +1,6 @@
 use Rattle.device.specs.Device.{state_of}
-use Rattle.cuwajimo.proofs.Tickets.{eight_ended}
-use Rattle.cuwajimo.proofs.desk.Desk.close.Goals as goal
+use Rattle.desk.proofs.Tickets.{eight_ended}
+use Rattle.desk.proofs.desk.Desk.close.Goals as goal
 
 pub returns : goal.returns
 returns g c =

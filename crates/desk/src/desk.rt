@@ -1,6 +1,6 @@
 ghost use Rattle.std.specs.Prelude.{◌≡◌, Some, None};
 ghost use Rattle.device.specs.Device.{state};
-ghost use Rattle.cuwajimo.specs.Desks.{empty_desk, held, with_slot, given_up, ended, all_ended};
+ghost use Rattle.desk.specs.Desks.{empty_desk, held, with_slot, given_up, ended, all_ended};
 
 use device::controller::HOSTS;
 use device::device::Device;
@@ -16,7 +16,7 @@ pub struct Desk {
 
 impl Desk {
     /// No ticket.
-    pub(super) fn new() -> Desk
+    pub fn new() -> Desk
         ensures { result ≡ empty_desk }
     {
         Desk {
@@ -27,7 +27,7 @@ impl Desk {
     /// Takes a host's ticket.
     // By index, here and in `put`: `get_mut` was tried, and the proof doesn't close, since its contract doesn't say what the
     // array is after.
-    pub(super) fn take(&mut self, host: u8) -> Option<Ticket>
+    pub fn take(&mut self, host: u8) -> Option<Ticket>
         ensures value { result ≡ held self.old host }
         ensures after { self.new ≡ with_slot self.old host None }
     {
@@ -40,7 +40,7 @@ impl Desk {
     }
 
     /// Keeps a host's ticket. A device hands out one at a time; another that were there would be given up.
-    pub(super) fn put<S: Store>(&mut self, device: &mut Device<S>, host: u8, ticket: Ticket)
+    pub fn put<S: Store>(&mut self, device: &mut Device<S>, host: u8, ticket: Ticket)
         ensures after { self.new ≡ with_slot self.old host (Some ticket) }
         ensures device { state S.Store.blocks device.new ≡ ended (state S.Store.blocks device.old) (given_up self.old host ticket) }
     {
@@ -53,7 +53,7 @@ impl Desk {
     }
 
     /// Ends the tickets that are still open.
-    pub(super) fn close<S: Store>(self, device: &mut Device<S>)
+    pub fn close<S: Store>(self, device: &mut Device<S>)
         ensures { state S.Store.blocks device.new ≡ all_ended (state S.Store.blocks device.old) self }
     {
         let Desk { slots } = self;

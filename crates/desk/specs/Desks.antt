@@ -1,9 +1,9 @@
--- The tickets that the program keeps for the hosts, one place for each of the eight.
+-- The tickets that are kept for the hosts, one place for each of the eight.
 use Rattle.std.specs.Prelude.{ℕ, zero, suc, ◌+◌, cond, replicate, Some, None, Option, nat_lt, slice_index_or, slice_set}
 use Rattle.device.specs.declared.ticket.Ticket.{Ticket}
 use Rattle.device.specs.Calls.{cancel}
 use Rattle.device.specs.Device.{State, after}
-use Rattle.cuwajimo.specs.declared.desk.Desk.{Desk}
+use Rattle.desk.specs.declared.desk.Desk.{Desk}
 
 -- No host has a ticket.
 abbrev pub empty_desk : Desk

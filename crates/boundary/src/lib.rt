@@ -1,0 +1,66 @@
+//! Traces over lent memory, for C and Rust: one function for each kind of store. docs/TRACE.md says what they take and give.
+#![tactic(auto)]
+
+ghost use Rattle.std.specs.Prelude.{length};
+ghost use Rattle.store.specs.declared.fault.Protection.TheVariants.{Open};
+ghost use Rattle.flat.specs.Flat.{flat_offered, flat_refusal};
+ghost use Rattle.raw.specs.Raw.{raw_offered, raw_refusal};
+ghost use Rattle.layer.specs.Guards.{guard};
+ghost use Rattle.layer.specs.Windows.{window};
+ghost use Rattle.trace.specs.Heads.{head_in};
+ghost use Rattle.boundary.specs.Exports.{Returns};
+
+use layer::run::Run;
+use trace::images::{play_flat, play_pile, play_raw};
+
+/// Plays a trace over a flat image, and tells how it ended.
+#[unsafe(no_mangle)]
+pub extern "C" fn cuwajimo_flat(
+    image: &mut [u8],
+    damage: &mut [u8],
+    trace: &[u8],
+    output: &mut [u8],
+) -> u64
+    ensures { Returns (head_in trace.now) (flat_refusal (length image.old) (length damage.old)) (flat_offered image.old damage.old Open) output.old output.new result }
+{
+    play_flat(image, damage, trace, output).number()
+}
+
+/// Plays a trace over a raw image, and tells how it ended.
+#[unsafe(no_mangle)]
+pub extern "C" fn cuwajimo_raw(
+    image: &mut [u8],
+    spares: &[u8],
+    records: u32,
+    trace: &[u8],
+    output: &mut [u8],
+) -> u64
+    ensures { Returns (head_in trace.now) (raw_refusal (length image.old) spares.now records) (raw_offered image.old spares.now records Open) output.old output.new result }
+{
+    play_raw(image, spares, records, trace, output).number()
+}
+
+/// Plays a trace over a flat image under a window, a write guard and a cache, and tells how it ended.
+#[unsafe(no_mangle)]
+pub extern "C" fn cuwajimo_pile(
+    image: &mut [u8],
+    damage: &mut [u8],
+    window_first: u32,
+    window_count: u32,
+    guard_first: u32,
+    guard_count: u32,
+    trace: &[u8],
+    output: &mut [u8],
+) -> u64
+    ensures { Returns (head_in trace.now) (flat_refusal (length image.old) (length damage.old)) (guard (window (flat_offered image.old damage.old Open) (record { first = window_first; count = window_count })) (record { first = guard_first; count = guard_count })) output.old output.new result }
+{
+    let shown = Run {
+        first: window_first,
+        count: window_count,
+    };
+    let guarded = Run {
+        first: guard_first,
+        count: guard_count,
+    };
+    play_pile(image, damage, shown, guarded, trace, output).number()
+}

@@ -1,0 +1,70 @@
+-- What a trace comes to: its entries one after the other, and the output that they write.
+use Rattle.std.specs.Prelude.{ℕ, zero, suc, ◌+◌, Bool, true, false, cond, List, [], ◌∷◌, ◌++◌, length, take, drop, Some, None, Option, nat_le}
+use Rattle.trace.specs.declared.ending.Ending.{Ending}
+use Rattle.trace.specs.declared.ending.How.{How}
+use Rattle.trace.specs.declared.ending.How.TheVariants as hows
+use Rattle.trace.specs.Answers.{answer_bytes}
+use Rattle.trace.specs.Entries.{Entry, entry_in, buffer_size}
+use Rattle.trace.specs.Worlds.{World, Made, made}
+
+-- ---- Reading: the entries up to the end, or up to one that is not whole or of no kind.
+
+pub record Reading : Type 0 where
+  pub entries : List Entry
+  pub whole : Bool
+
+abbrev pub read_next : (List ℕ → Reading) → Option (Entry × List ℕ) → Reading
+read_next others None = record { entries = []; whole = false }
+read_next others (Some p) = record { entries = p.0 ∷ (others p.1).entries; whole = (others p.1).whole }
+
+-- Each entry has at least one byte, so as many turns as there are bytes are enough.
+abbrev pub read : ℕ → List ℕ → Reading
+read n [] = record { entries = []; whole = true }
+read zero (byte ∷ bytes) = record { entries = []; whole = false }
+read (suc n) (byte ∷ bytes) = read_next (λ others. read n others) (entry_in (byte ∷ bytes))
+
+unfoldable pub reading : List ℕ → Reading
+reading bytes = read (length bytes) bytes
+
+-- ---- One entry: sixteen bytes of answer, and behind them the buffer, which is what stands there in the output.
+
+abbrev pub room_for : Entry → ℕ
+room_for e = 16 + buffer_size e
+
+abbrev pub has_room : Entry → List ℕ → Bool
+has_room e output = nat_le (room_for e) (length output)
+
+abbrev pub made_in : World → Entry → List ℕ → Made
+made_in w e output = made w e (take (buffer_size e) (drop 16 output))
+
+abbrev pub written_in : Made → List ℕ → List ℕ
+written_in m rest = answer_bytes m.answer ++ (m.buffer ++ rest)
+
+-- ---- All of them.
+
+pub record Course : Type 0 where
+  pub world : World
+  pub output : List ℕ
+  pub written : ℕ
+  pub how : How
+
+abbrev pub ended_so : How → World → List ℕ → Course
+ended_so how w output = record { world = w; output = output; written = 0; how = how }
+
+abbrev pub after_entry : Made → ℕ → Course → Course
+after_entry m room c = record { world = c.world; output = written_in m c.output; written = room + c.written; how = c.how }
+
+abbrev pub played : World → List Entry → Bool → List ℕ → Course
+played w [] whole output = ended_so (cond whole hows.Whole hows.NoCall) w output
+played w (e ∷ es) whole output =
+    cond (has_room e output)
+    (after_entry (made_in w e output) (room_for e) (played (made_in w e output).world es whole (drop (room_for e) output)))
+    (ended_so hows.NoRoom w output)
+
+-- The calls of a trace, over a device with its tickets and an output.
+unfoldable pub course : World → List ℕ → List ℕ → Course
+course w calls output = played w (reading calls).entries (reading calls).whole output
+
+-- What the code hands over of one.
+abbrev pub runs_to : World → List ℕ → Ending → Course
+runs_to w output ending = record { world = w; output = output; written = ending.written; how = ending.how }

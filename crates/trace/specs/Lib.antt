@@ -1,0 +1,8 @@
+pub mod Answers
+pub mod Courses
+pub mod Endings
+pub mod Entries
+pub mod Heads
+pub mod Reading
+pub mod Worlds
+pub mod Plays
