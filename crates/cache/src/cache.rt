@@ -1,9 +1,9 @@
-ghost use Rattle.std.specs.Prelude.{◌≡◌, ◌<◌, true, is_some, is_ok, if◌then◌else◌, IfSome, Some, None};
+ghost use Rattle.std.specs.Prelude.{◌≡◌, ◌<◌, true, is_some, is_ok, if◌then◌else◌, IfSome, Some, None, slice_index_or};
 ghost use Rattle.store.specs.Blocks.{read_answer, read_buffer, write_answer, written};
 ghost use Rattle.std.specs.List.{slice_get};
-ghost use Rattle.cache.specs.Caches.{kept, vacant_slots, cached_by, cache_lawful, held, without_block, turn_place, giving_up, place, place_for, with_room, keeping, after_read, after_write, after_settle, is_open_at, KeptLate};
+ghost use Rattle.cache.specs.Once.{Once};
 
-use super::slot::{Slot, find, forget};
+use super::slot::{Slot, find};
 use store::fault::{BLOCK_BYTES, FaultKind, Protection, StoreFault};
 use store::store::Store;
 
@@ -16,9 +16,12 @@ pub struct Cache<S> {
     below: S,
     slots: [Slot; SLOTS],
     turn: usize,
+    ghost once: { Once slots },
 }
 
 impl<S: Store> Cache<S> {
+    ghost use Rattle.cache.specs.Caches.{kept, vacant_slots, cached_by, held, no_slot, without_block, turn_place, giving_up, place, place_for, with_room, keeping, KeptLate};
+
     /// A cache that keeps nothing yet.
     pub fn new(below: S) -> Cache<S>
         ensures below { result.below ≡ below }
@@ -64,14 +67,15 @@ impl<S: Store> Cache<S> {
         below
     }
 
-    /// Writes a kept block to the store below, and keeps it no more.
-    fn flush(&mut self, block: u32)
-        ensures { held S.Store.blocks self.new ≡ without_block (held S.Store.blocks self.old) (Some block) }
+    /// Writes the block of a slot, if it keeps one, to the store below, and keeps it no more.
+    fn flush(&mut self, place: usize)
+        requires { place < 8 }
+        ensures { held S.Store.blocks self.new ≡ without_block (held S.Store.blocks self.old) (slice_index_or self.old.slots place no_slot).block }
     {
-        if let Some(place) = find(&self.slots, Some(block)) {
+        if let Some(block) = self.slots[place].block {
             let _ = self.below.write(block, &self.slots[place].bytes);
+            self.slots[place].block = None;
         }
-        forget(&mut self.slots, block);
     }
 
     /// Gives up the block in the slot whose turn it is, and says which slot that is.
@@ -80,9 +84,7 @@ impl<S: Store> Cache<S> {
         ensures held { held S.Store.blocks self.new ≡ giving_up (held S.Store.blocks self.old) }
     {
         let place = self.turn % SLOTS;
-        if let Some(block) = self.slots[place].block {
-            self.flush(block);
-        }
+        self.flush(place);
         self.turn = place + 1;
         place
     }
@@ -131,6 +133,8 @@ impl<S: Store> Cache<S> {
 }
 
 impl<S: Store> Store for Cache<S> {
+    ghost use Rattle.cache.specs.Caches.{cached_by, cache_lawful, held, after_read, after_write, after_settle, is_open_at, KeptLate};
+
     ghost blocks = { λ s. cached_by S.Store.blocks s };
 
     ghost stored = { λ s. S.Store.stored s.below };
