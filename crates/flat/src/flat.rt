@@ -7,6 +7,7 @@ ghost use Rattle.image.specs.Images.{if_accepted, harmed};
 use super::lengths::flat_count;
 use super::marks::{is_marked, mark, unmark};
 use image::check::ask;
+use image::copy::copy_block;
 use image::refusal::Refusal;
 use store::fault::{BLOCK_BYTES, FaultKind, Protection, StoreFault};
 use store::store::Store;
@@ -90,7 +91,7 @@ impl<'a> FlatImage<'a> {
             return Err(FaultKind::Damaged.at(block));
         }
         let at = BLOCK_BYTES * number;
-        buffer.copy_from_slice(&self.bytes[at..at + BLOCK_BYTES]);
+        copy_block(&self.bytes[at..at + BLOCK_BYTES], buffer);
         Ok(())
     }
 }
@@ -131,7 +132,7 @@ impl Store for FlatImage<'_> {
         let number = ask(bytes.len(), block, self.count())?;
         self.protection.permit(block)?;
         let at = BLOCK_BYTES * number;
-        self.bytes[at..at + BLOCK_BYTES].copy_from_slice(bytes);
+        copy_block(bytes, &mut self.bytes[at..at + BLOCK_BYTES]);
         unmark(self.damage, number);
         Ok(())
     }

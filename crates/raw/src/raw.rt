@@ -6,6 +6,7 @@ ghost use Rattle.image.specs.Images.{if_accepted, harmed};
 use super::lengths::{raw_count, records_fit};
 use super::tracks::{HEADER_BYTES, first_misplaced, record_start};
 use image::check::ask;
+use image::copy::copy_block;
 use image::refusal::Refusal;
 use store::fault::{BLOCK_BYTES, FaultKind, Protection, StoreFault};
 use store::store::Store;
@@ -115,7 +116,7 @@ impl<'a> RawImage<'a> {
             return Err(FaultKind::Damaged.at(block));
         }
         let from = at + HEADER_BYTES;
-        buffer.copy_from_slice(&self.bytes[from..from + BLOCK_BYTES]);
+        copy_block(&self.bytes[from..from + BLOCK_BYTES], buffer);
         Ok(())
     }
 }
@@ -159,7 +160,7 @@ impl Store for RawImage<'_> {
         let at = self.start(block);
         self.bytes[at] = SOUND;
         let from = at + HEADER_BYTES;
-        self.bytes[from..from + BLOCK_BYTES].copy_from_slice(bytes);
+        copy_block(bytes, &mut self.bytes[from..from + BLOCK_BYTES]);
         Ok(())
     }
 
