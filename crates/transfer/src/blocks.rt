@@ -110,6 +110,7 @@ impl Span {
     }
 
     /// Writes block k, and tells the fault.
+    // Inlined, as `read_one` is.
     #[inline(always)]
     fn write_one<S: Store>(&self, store: &mut S, k: u32, part: &[u8]) -> Result<(), HostFault>
         requires within { k < segment_of self.now.transaction }
