@@ -256,19 +256,13 @@ settled_same bs slots = same_cached (cached bs slots) bs slots slots (λ j. ap (
     twice None (Some k) = refl
     twice (Some y) (Some k) = ap Some (taken_again y k)
 
--- what `find` and `flush` need of the first slot of a block
+-- what `find` needs of the first slot of a block
 pub kept_place : (slots : List Slot) (b : ℕ) → is_some (place slots (Some b)) ≡ is_some (kept slots b)
 kept_place slots b = at (place slots (Some b)) refl
   where
     at : (o : Option ℕ) → place slots (Some b) ≡ o → is_some o ≡ is_some (kept slots b)
     at None e = sym (ap is_some (none_kept slots b e))
     at (Some p) e = sym (ap is_some (first_kept slots b p (first_place slots (Some b) p e)))
-
-pub put_found : (bs : List Block) (slots : List Slot) (b p : ℕ) → Some p ≡ place slots (Some b) → written bs b (get_or slots p no_slot).bytes ≡ put_below bs slots (Some b)
-put_found bs slots b p e = sym (ap (put_bytes bs b) (first_kept slots b p (first_place slots (Some b) p (sym e))))
-
-pub put_missing : (bs : List Block) (slots : List Slot) (b : ℕ) → None ≡ place slots (Some b) → bs ≡ put_below bs slots (Some b)
-put_missing bs slots b e = sym (ap (put_bytes bs b) (none_kept slots b (sym e)))
 
 -- Two stores with the same at block b read alike there; an open block that is sound is read.
 pub same_read : (bs cs : List Block) (b : ℕ) (buffer : List ℕ) → slice_get bs b ≡ slice_get cs b → (read_answer bs b buffer ≡ read_answer cs b buffer) × (read_buffer bs b buffer ≡ read_buffer cs b buffer)

@@ -1,3 +1,4 @@
 pub mod SlotFacts
 pub mod CacheFacts
 pub mod KeptLate
+pub mod OnceFacts

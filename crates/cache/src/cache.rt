@@ -1,9 +1,9 @@
-ghost use Rattle.std.specs.Prelude.{◌≡◌, ◌<◌, true, is_some, is_ok, if◌then◌else◌, Some};
+ghost use Rattle.std.specs.Prelude.{◌≡◌, ◌<◌, true, is_some, is_ok, if◌then◌else◌, IfSome, Some, None, slice_index_or};
 ghost use Rattle.store.specs.Blocks.{read_answer, read_buffer, write_answer, written};
 ghost use Rattle.std.specs.List.{slice_get};
-ghost use Rattle.cache.specs.Caches.{kept, vacant_slots, cached_by, cache_lawful, held, without_block, turn_place, giving_up, place_for, with_room, keeping, after_read, after_write, after_settle, is_open_at, KeptLate};
+ghost use Rattle.cache.specs.Once.{Once};
 
-use super::slot::{Slot, find, forget};
+use super::slot::{Slot, find};
 use store::fault::{BLOCK_BYTES, FaultKind, Protection, StoreFault};
 use store::store::Store;
 
@@ -16,9 +16,12 @@ pub struct Cache<S> {
     below: S,
     slots: [Slot; SLOTS],
     turn: usize,
+    ghost once: { Once slots },
 }
 
 impl<S: Store> Cache<S> {
+    ghost use Rattle.cache.specs.Caches.{kept, vacant_slots, cached_by, held, no_slot, without_block, turn_place, giving_up, place, place_for, with_room, keeping, KeptLate};
+
     /// A cache that keeps nothing yet.
     pub fn new(below: S) -> Cache<S>
         ensures below { result.below ≡ below }
@@ -64,14 +67,15 @@ impl<S: Store> Cache<S> {
         below
     }
 
-    /// Writes a kept block to the store below, and keeps it no more.
-    fn flush(&mut self, block: u32)
-        ensures { held S.Store.blocks self.new ≡ without_block (held S.Store.blocks self.old) (Some block) }
+    /// Writes the block of a slot, if it keeps one, to the store below, and keeps it no more.
+    fn flush(&mut self, place: usize)
+        requires { place < 8 }
+        ensures { held S.Store.blocks self.new ≡ without_block (held S.Store.blocks self.old) (slice_index_or self.old.slots place no_slot).block }
     {
-        if let Some(place) = find(&self.slots, Some(block)) {
+        if let Some(block) = self.slots[place].block {
             let _ = self.below.write(block, &self.slots[place].bytes);
+            self.slots[place].block = None;
         }
-        forget(&mut self.slots, block);
     }
 
     /// Gives up the block in the slot whose turn it is, and says which slot that is.
@@ -80,20 +84,19 @@ impl<S: Store> Cache<S> {
         ensures held { held S.Store.blocks self.new ≡ giving_up (held S.Store.blocks self.old) }
     {
         let place = self.turn % SLOTS;
-        if let Some(block) = self.slots[place].block {
-            self.flush(block);
-        }
+        self.flush(place);
         self.turn = place + 1;
         place
     }
 
     /// The slot to put a block in: its own, a vacant one, or one whose block is given up for it.
-    fn room(&mut self, block: u32) -> usize
+    fn room(&mut self, own: Option<usize>, block: u32) -> usize
+        requires own { own ≡ place self.old.slots (Some block) }
+        requires inside { IfSome own (λ i. i < 8) }
         ensures place { result ≡ place_for self.old.slots self.old.turn block }
         ensures within { result < 8 }
         ensures held { held S.Store.blocks self.new ≡ with_room (held S.Store.blocks self.old) block }
     {
-        let own = find(&self.slots, Some(block));
         // `unwrap_or_else` was tried: from it the proof learns nothing of `self` where no block is given up
         match own.or_else(|| find(&self.slots, None)) {
             Some(place) => place,
@@ -101,18 +104,22 @@ impl<S: Store> Cache<S> {
         }
     }
 
-    /// Keeps a block with these bytes.
-    fn keep(&mut self, block: u32, bytes: &[u8; BLOCK_BYTES])
+    /// Keeps a block with these bytes, in the slot that keeps it already if one does.
+    // The caller says which does, since `read` has looked for it before.
+    fn keep(&mut self, own: Option<usize>, block: u32, bytes: &[u8; BLOCK_BYTES])
+        requires own { own ≡ place self.old.slots (Some block) }
+        requires inside { IfSome own (λ i. i < 8) }
         ensures held { held S.Store.blocks self.new ≡ keeping (held S.Store.blocks self.old) block bytes.now }
         ensures after { cached_by S.Store.blocks self.new ≡ written (cached_by S.Store.blocks self.old) block bytes.now }
         ensures late { KeptLate (held S.Store.blocks self.old) (held S.Store.blocks self.new) block bytes.now }
     {
-        let place = self.room(block);
+        let place = self.room(own, block);
         self.slots[place].fill(block, bytes);
     }
 
     /// Reads an open block that is not kept, and keeps it.
     fn fetch(&mut self, block: u32, buffer: &mut [u8; BLOCK_BYTES]) -> Result<(), StoreFault>
+        requires { place self.old.slots (Some block) ≡ None }
         ensures answer { result ≡ read_answer (S.Store.blocks self.old.below) block buffer.old }
         ensures buffer { buffer.new ≡ read_buffer (S.Store.blocks self.old.below) block buffer.old }
         ensures held { held S.Store.blocks self.new ≡ (if is_ok result then keeping (held S.Store.blocks self.old) block buffer.new else held S.Store.blocks self.old) }
@@ -120,12 +127,14 @@ impl<S: Store> Cache<S> {
         ensures late { is_ok result ≡ true → KeptLate (held S.Store.blocks self.old) (held S.Store.blocks self.new) block buffer.new }
     {
         self.below.read(block, buffer)?;
-        self.keep(block, buffer);
+        self.keep(None, block, buffer);
         Ok(())
     }
 }
 
 impl<S: Store> Store for Cache<S> {
+    ghost use Rattle.cache.specs.Caches.{cached_by, cache_lawful, held, after_read, after_write, after_settle, is_open_at, KeptLate};
+
     ghost blocks = { λ s. cached_by S.Store.blocks s };
 
     ghost stored = { λ s. S.Store.stored s.below };
@@ -164,7 +173,8 @@ impl<S: Store> Store for Cache<S> {
     {
         let bytes = bytes.as_array().ok_or(FaultKind::Length.at(block))?;
         self.below.protection(block)?.permit(block)?;
-        self.keep(block, bytes);
+        let own = find(&self.slots, Some(block));
+        self.keep(own, block, bytes);
         Ok(())
     }
 

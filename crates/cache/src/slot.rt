@@ -1,5 +1,5 @@
 ghost use Rattle.std.specs.Prelude.{◌≡◌, ◌<◌, length, IfSome, Some};
-ghost use Rattle.cache.specs.Caches.{slot, place, without, forgotten};
+ghost use Rattle.cache.specs.Caches.{slot, place};
 
 use store::fault::BLOCK_BYTES;
 
@@ -20,15 +20,6 @@ impl Slot {
         self.block = Some(block);
         self.bytes = *bytes;
     }
-
-    /// Keeps this block no more.
-    fn forget(&mut self, block: u32)
-        ensures { self.new ≡ without block self.old }
-    {
-        if self.block == Some(block) {
-            self.block = None;
-        }
-    }
 }
 
 /// The first slot that keeps this block, or with `None` the first that keeps nothing.
@@ -37,13 +28,4 @@ pub(super) fn find(slots: &[Slot], block: Option<u32>) -> Option<usize>
     ensures within { IfSome result (λ i. i < length slots.now) }
 {
     slots.iter().position(|slot| slot.block == block)
-}
-
-/// Makes every slot that keeps this block vacant.
-pub(super) fn forget(slots: &mut [Slot], block: u32)
-    ensures { slots.new ≡ forgotten slots.old (Some block) }
-{
-    for slot in slots.iter_mut() {
-        slot.forget(block);
-    }
 }

@@ -1,13 +1,13 @@
-ghost use Rattle.std.specs.Prelude.{◌≡◌, ◌*◌, ◌<◌, true, false, [], length, IfOk, if◌then◌else◌, Ok, MatchResult, nat_lt};
+ghost use Rattle.std.specs.Prelude.{◌≡◌, ◌+◌, ◌*◌, ◌/◌, ◌%◌, ◌<◌, ◌≤◌, true, false, [], length, IfOk, if◌then◌else◌, Ok, MatchResult, nat_lt};
 ghost use Rattle.std.specs.Result.{result_err};
 ghost use Rattle.store.specs.Blocks.{read_answer, read_buffer, write_answer, written};
 ghost use Rattle.image.specs.Memory.{laid};
 ghost use Rattle.image.specs.Images.{if_accepted, harmed};
-ghost use Rattle.flat.specs.Flat.{flat_count, flat_size, flat_meaning, flat_refusal, flat_offered, with_mark, without_mark, OnlyMark, SameFlat};
-ghost use Rattle.flat.specs.Lawful.{flat_lawful};
 
-use super::marks::{MARKS_A_BYTE, is_marked, mark, unmark};
-use image::check::{BLOCK_LIMIT, ask};
+use super::lengths::flat_count;
+use super::marks::{is_marked, mark, unmark};
+use image::check::ask;
+use image::copy::copy_block;
 use image::refusal::Refusal;
 use store::fault::{BLOCK_BYTES, FaultKind, Protection, StoreFault};
 use store::store::Store;
@@ -20,20 +20,14 @@ pub struct FlatImage<'a> {
     bytes: &'a mut [u8],
     damage: &'a mut [u8],
     protection: Protection,
-}
-
-/// How many blocks memory and map of these lengths have, if they fit.
-pub fn flat_count(bytes: usize, damage: usize) -> Option<u32>
-    ensures { result ≡ flat_count bytes damage }
-{
-    let blocks = bytes / BLOCK_BYTES;
-    let fits = bytes % BLOCK_BYTES == 0
-        && blocks <= BLOCK_LIMIT
-        && damage == blocks.div_ceil(MARKS_A_BYTE);
-    fits.then(|| blocks as u32)
+    ghost whole_blocks: { length bytes.now % 256 ≡ 0 },
+    ghost few_blocks: { length bytes.now / 256 ≤ 4194304 },
+    ghost marks_fit: { length damage.now ≡ (length bytes.now / 256 + 7) / 8 },
 }
 
 impl<'a> FlatImage<'a> {
+    ghost use Rattle.flat.specs.Flat.{flat_size, flat_meaning, flat_refusal, flat_offered, with_mark, OnlyMark};
+
     /// Takes memory and map that fit one another as an image.
     pub fn open(
         bytes: &'a mut [u8],
@@ -71,7 +65,8 @@ impl<'a> FlatImage<'a> {
         ensures size { result ≡ flat_size (length self.now.bytes.now) (length self.now.damage.now) }
         ensures blocks { result ≡ length (flat_meaning self.now) }
     {
-        flat_count(self.bytes.len(), self.damage.len()).unwrap_or(0)
+        // memory and map fit one another, so nothing is asked of them again at each call
+        (self.bytes.len() / BLOCK_BYTES) as u32
     }
 
     /// Marks a block damaged, whatever its protection.
@@ -96,12 +91,15 @@ impl<'a> FlatImage<'a> {
             return Err(FaultKind::Damaged.at(block));
         }
         let at = BLOCK_BYTES * number;
-        buffer.copy_from_slice(&self.bytes[at..at + BLOCK_BYTES]);
+        copy_block(&self.bytes[at..at + BLOCK_BYTES], buffer);
         Ok(())
     }
 }
 
 impl Store for FlatImage<'_> {
+    ghost use Rattle.flat.specs.Flat.{flat_meaning, without_mark, OnlyMark, SameFlat};
+    ghost use Rattle.flat.specs.Lawful.{flat_lawful};
+
     ghost blocks = { λ s. flat_meaning s };
 
     ghost stored = { λ s. flat_meaning s };
@@ -134,7 +132,7 @@ impl Store for FlatImage<'_> {
         let number = ask(bytes.len(), block, self.count())?;
         self.protection.permit(block)?;
         let at = BLOCK_BYTES * number;
-        self.bytes[at..at + BLOCK_BYTES].copy_from_slice(bytes);
+        copy_block(bytes, &mut self.bytes[at..at + BLOCK_BYTES]);
         unmark(self.damage, number);
         Ok(())
     }

@@ -1,4 +1,5 @@
 #![tactic(auto)]
 
 pub mod flat;
+pub mod lengths;
 mod marks;

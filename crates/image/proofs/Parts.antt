@@ -1,5 +1,5 @@
 -- A part of memory after something was laid over it.
-use Rattle.std.proofs.Common.{◌≡◌, ℕ, ◌+◌, ◌-◌, ◌<◌, ◌≤◌, min, ◌⊎◌, List, [], ◌∷◌, ◌++◌, length, get_or, take, drop, set, sym, refl, ap, ◌∙◌, inl, inr, add-one, arith, rules}
+use Rattle.std.proofs.Common.{◌≡◌, ℕ, ◌+◌, ◌-◌, ◌<◌, ◌≤◌, min, cond, eqb, ◌&&◌, ◌⊎◌, List, [], ◌∷◌, ◌++◌, length, get_or, take, drop, set, sym, refl, ap, ◌∙◌, inl, inr, add-one, arith, rules}
 use borrow.Rule.Slice.PartMut.{put_mid}
 use Rattle.std.proofs.lemmas.List.{length-take, length-drop, length-take-le, take_at, drop_at, drop-drop, get_or-take, get_or-drop, set_split, drop-take, take-take, same_lists, places}
 use Rattle.image.specs.Memory.{part, laid}
@@ -55,3 +55,7 @@ part_part bytes at n k m h =
 
 pub get_d_part : (bytes : List ℕ) (at n k d : ℕ) → k < n → get_or (part bytes at n) k d ≡ get_or bytes (at + k) d
 get_d_part bytes at n k d h = get_or-take n (drop at bytes) k d h ∙ get_or-drop at bytes k d
+
+-- a block that is copied whole
+pub copied : (from to : List ℕ) → length from ≡ 256 → length to ≡ 256 → cond (eqb (length from) 256 && eqb (length to) 256) from to ≡ from
+copied from to f t = rw (f, t) refl

@@ -1,4 +1,5 @@
 #![tactic(auto)]
 
 pub mod check;
+pub mod copy;
 pub mod refusal;

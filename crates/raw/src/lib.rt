@@ -1,4 +1,5 @@
 #![tactic(auto)]
 
+pub mod lengths;
 pub mod raw;
 mod tracks;

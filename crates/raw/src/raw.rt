@@ -1,21 +1,15 @@
-ghost use Rattle.std.specs.Prelude.{◌≡◌, ◌+◌, ◌*◌, ◌<◌, ◌≤◌, [], length, IfOk, if◌then◌else◌, Ok, MatchResult, nat_lt};
+ghost use Rattle.std.specs.Prelude.{◌≡◌, ◌+◌, ◌-◌, ◌*◌, ◌<◌, ◌≤◌, [], length, IfOk, if◌then◌else◌, Ok, MatchResult, nat_lt};
 ghost use Rattle.std.specs.Result.{result_err};
 ghost use Rattle.store.specs.Blocks.{read_answer, read_buffer, write_answer, written};
 ghost use Rattle.image.specs.Images.{if_accepted, harmed};
-ghost use Rattle.raw.specs.Raw.{records_fit, raw_count, raw_size, raw_meaning, image_record, raw_refusal, raw_offered, with_data, with_flag, SameRaw, Layout, SpareTold, RecordWritten};
-ghost use Rattle.raw.specs.Lawful.{raw_lawful};
 
-use super::tracks::{HEADER_BYTES, RECORD_BYTES, first_misplaced, record_start};
-use image::check::{BLOCK_LIMIT, ask};
+use super::lengths::{raw_count, records_fit};
+use super::tracks::{HEADER_BYTES, first_misplaced, record_start};
+use image::check::ask;
+use image::copy::copy_block;
 use image::refusal::Refusal;
 use store::fault::{BLOCK_BYTES, FaultKind, Protection, StoreFault};
 use store::store::Store;
-
-/// The least records of a track.
-const RECORDS_LEAST: u32 = 2;
-
-/// The most records of a track.
-const RECORDS_MOST: u32 = 256;
 
 /// What header byte 0 of a record is set to: any other number than SOUND says damaged too.
 const SOUND: u8 = 0;
@@ -30,30 +24,15 @@ pub struct RawImage<'a> {
     spares: &'a [u8],
     records: u32,
     protection: Protection,
-}
-
-/// Whether a track may have so many records.
-fn records_fit(records: u32) -> bool
-    ensures { result ≡ records_fit records }
-{
-    (RECORDS_LEAST..=RECORDS_MOST).contains(&records)
-}
-
-/// How many blocks memory of this length has in so many tracks of so many records, if they fit.
-pub fn raw_count(bytes: usize, tracks: usize, records: u32) -> Option<u32>
-    ensures { result ≡ raw_count bytes tracks records }
-{
-    // each track has a block, so more tracks are too many, and no product below overflows
-    if !records_fit(records) || tracks > BLOCK_LIMIT {
-        return None;
-    }
-    let records = records as usize;
-    let blocks = tracks * (records - 1);
-    let fits = bytes == RECORD_BYTES * (records * tracks) && blocks <= BLOCK_LIMIT;
-    fits.then(|| blocks as u32)
+    ghost two_records: { 2 ≤ records },
+    ghost most_records: { records ≤ 256 },
+    ghost few_blocks: { length spares.now * (records - 1) ≤ 4194304 },
+    ghost whole_tracks: { length bytes.now ≡ 276 * (records * length spares.now) },
 }
 
 impl<'a> RawImage<'a> {
+    ghost use Rattle.raw.specs.Raw.{raw_size, raw_meaning, image_record, raw_refusal, raw_offered, with_flag, Layout, SpareTold};
+
     /// Takes memory and spare places that fit one another as an image.
     pub fn open(
         bytes: &'a mut [u8],
@@ -105,7 +84,7 @@ impl<'a> RawImage<'a> {
         ensures protection { self.new.protection ≡ self.old.protection }
     {
         if block < self.count() {
-            let at = self.start(block as usize);
+            let at = self.start(block);
             self.bytes[at] = DAMAGED;
         }
     }
@@ -114,34 +93,38 @@ impl<'a> RawImage<'a> {
         ensures size { result ≡ raw_size (length self.now.bytes.now) (length self.now.spares.now) self.now.records }
         ensures blocks { result ≡ length (raw_meaning self.now) }
     {
-        raw_count(self.bytes.len(), self.spares.len(), self.records).unwrap_or(0)
+        // memory and spare places fit one another, so nothing is asked of them again at each call
+        self.spares.len() as u32 * (self.records - 1)
     }
 
     /// The byte at which the record of a block begins.
-    fn start(&self, block: usize) -> usize
+    fn start(&self, block: u32) -> usize
         requires { block < raw_size (length self.now.bytes.now) (length self.now.spares.now) self.now.records }
         ensures value { result ≡ 276 * image_record self.now block }
         ensures inside { result + 276 ≤ length self.now.bytes.now }
     {
-        record_start(self.spares, self.records as usize, block)
+        record_start(self.spares, self.records, block)
     }
 
     fn fetch(&self, block: u32, buffer: &mut [u8]) -> Result<(), StoreFault>
         ensures answer { result ≡ read_answer (raw_meaning self.now) block buffer.old }
         ensures buffer { buffer.new ≡ read_buffer (raw_meaning self.now) block buffer.old }
     {
-        let number = ask(buffer.len(), block, self.count())?;
-        let at = self.start(number);
+        ask(buffer.len(), block, self.count())?;
+        let at = self.start(block);
         if self.bytes[at] != SOUND {
             return Err(FaultKind::Damaged.at(block));
         }
         let from = at + HEADER_BYTES;
-        buffer.copy_from_slice(&self.bytes[from..from + BLOCK_BYTES]);
+        copy_block(&self.bytes[from..from + BLOCK_BYTES], buffer);
         Ok(())
     }
 }
 
 impl Store for RawImage<'_> {
+    ghost use Rattle.raw.specs.Raw.{raw_meaning, image_record, with_data, SameRaw, RecordWritten};
+    ghost use Rattle.raw.specs.Lawful.{raw_lawful};
+
     ghost blocks = { λ s. raw_meaning s };
 
     ghost stored = { λ s. raw_meaning s };
@@ -172,12 +155,12 @@ impl Store for RawImage<'_> {
         ensures protection { self.new.protection ≡ self.old.protection }
         ensures law { result ≡ Ok tt → RecordWritten self.old.bytes.now (image_record self.old block) bytes.now self.new.bytes.now }
     {
-        let number = ask(bytes.len(), block, self.count())?;
+        ask(bytes.len(), block, self.count())?;
         self.protection.permit(block)?;
-        let at = self.start(number);
+        let at = self.start(block);
         self.bytes[at] = SOUND;
         let from = at + HEADER_BYTES;
-        self.bytes[from..from + BLOCK_BYTES].copy_from_slice(bytes);
+        copy_block(bytes, &mut self.bytes[from..from + BLOCK_BYTES]);
         Ok(())
     }
 

@@ -11,22 +11,22 @@ pub(super) const HEADER_BYTES: usize = 6;
 // each of these calls, and be no plainer.
 
 /// The byte at which the record of a block begins.
-pub(super) fn record_start(spares: &[u8], records: usize, block: usize) -> usize
+pub(super) fn record_start(spares: &[u8], records: u32, block: u32) -> usize
     requires least { 2 ≤ records }
     requires most { records ≤ 256 }
-    requires number { block < 4294967296 }
     requires track { block / (records - 1) < length spares.now }
     ensures { result ≡ 276 * raw_record spares.now records block }
 {
+    // a division of 32 bits takes less than one of 64
     let blocks = records - 1;
-    let track = block / blocks;
+    let track = (block / blocks) as usize;
     let nth = block % blocks;
-    let place = if nth < usize::from(spares[track]) {
+    let place = if nth < u32::from(spares[track]) {
         nth
     } else {
         nth + 1
     };
-    RECORD_BYTES * (track * records + place)
+    RECORD_BYTES * (track * records as usize + place as usize)
 }
 
 /// The first track whose spare place is not in the track.

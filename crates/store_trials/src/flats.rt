@@ -1,5 +1,6 @@
 use super::common::*;
-use flat::flat::{FlatImage, flat_count};
+use flat::flat::FlatImage;
+use flat::lengths::flat_count;
 use image::refusal::Refusal;
 use std::test::Fail;
 use store::fault::{FaultKind, Protection};

@@ -1,6 +1,7 @@
 use super::common::*;
 use image::refusal::Refusal;
-use raw::raw::{RawImage, raw_count};
+use raw::lengths::raw_count;
+use raw::raw::RawImage;
 use std::test::Fail;
 use store::fault::{FaultKind, Protection};
 use store::store::Store;

@@ -1,19 +1,8 @@
 -- One turn of the loop that writes blocks, over plain lists.
-use Rattle.std.proofs.Common.{Bor, Iter, ◌≡◌, ℕ, zero, suc, ◌+◌, ◌-◌, ◌*◌, ◌/◌, ◌<◌, ◌≤◌, true, false, List, ◌∷◌, length, get_or, take, drop, set, is_some, Some, None, Ok, Err, Option, Result, sym, refl, ap, ◌∙◌, ap₂, add-zero, zero-add, arith}
+use Rattle.std.proofs.Common.{◌≡◌, ℕ, zero, suc, ◌+◌, ◌-◌, ◌*◌, ◌<◌, ◌≤◌, true, false, List, ◌∷◌, length, take, drop, set, is_some, Some, None, Ok, Err, Option, Result, sym, refl, ap, ◌∙◌, ap₂, add-zero, zero-add, arith}
 use native.Mathlib.Nat.{sub-zero}
-use Rattle.std.specs.Iterator.{Yields}
-use Rattle.std.specs.Iterator.Adapters.{zip_first, zip_second}
-use Rattle.std.specs.List.{slice_get, range_with_len, zip}
-use Rattle.std.specs.Slice.Iter.{iter_rest}
-use Rattle.std.specs.declared.iter.Zip.{Zip}
-use Rattle.std.specs.declared.ops.Range.{Range}
-use Rattle.std.proofs.iter.Yields.{fronts, nat_range_steps}
-use Rattle.std.proofs.lemmas.Iterator.{zips, YieldsList-from_slice, YieldsList-from_range, YieldsList-from_zip}
-use Rattle.std.proofs.lemmas.Iterator.Consumers.{YieldsList-turn, YieldsList-at}
-use Rattle.std.specs.Simd.{first_chunks}
+use Rattle.std.specs.List.{slice_get}
 use Rattle.std.proofs.lemmas.List.{drop-drop, length-take, length-drop}
-use Rattle.std.proofs.lemmas.List.FromFn.{length-range_with_len, get_or-range_with_len}
-use Rattle.std.proofs.lemmas.Slice.Zip.{length-zip, get_or-zip}
 use Rattle.store.specs.declared.fault.StoreFault.{StoreFault}
 use Rattle.store.specs.declared.fault.Protection.{Protection}
 use Rattle.store.specs.declared.fault.Protection.TheVariants as protections
@@ -97,40 +86,9 @@ bad_of : (r : Result (Unit {0}) StoreFault) (u a : ℕ) → is_some (met_by (con
 bad_of (Ok t) u a e = cc
 bad_of (Err f) u a e = (f, refl)
 
--- What turn i of the loop has: a block's place k, and its part of the buffer.
-pub record Turn (n i k : ℕ) (buffer part : List ℕ) : Type 0 where
-  pub within : i < n
-  pub place : k ≡ i
-  pub bytes : part ≡ take 256 (drop (256 * i) buffer)
-  pub whole : length part ≡ 256
-
-chunk_at : (m : ℕ) (s : List ℕ) (i : ℕ) (d : List ℕ) → i < m → get_or (first_chunks 256 m s) i d ≡ take 256 (drop (256 * i) s)
-chunk_at zero s i d l = absurd (omega arith)
-chunk_at (suc m) s zero d l = refl
-chunk_at (suc m) s (suc i) d l =
-    chunk_at m (drop 256 s) i d (omega arith) ∙ ap (take 256) (drop-drop (256 * i) 256 s ∙ ap (λ j. drop j s) (omega arith))
-
-turn_at : (n i k : ℕ) (buffer part : List ℕ) (parts : List (List ℕ)) → 256 * n ≤ length buffer → parts ≡ first_chunks 256 (length buffer / 256) buffer → length parts ≡ length buffer / 256 →
-    (i < length (zip (range_with_len 0 n) parts)) × ((k, part) ≡ get_or (zip (range_with_len 0 n) parts) i (k, part)) → Turn n i k buffer part
-turn_at n i k buffer part parts room front long here =
-    let within : i < n = omega (arith, here.0, length-zip (range_with_len 0 n) parts, length-range_with_len 0 n) in
-    let few : i < length parts = omega arith in
-    let at = here.1 ∙ get_or-zip (range_with_len 0 n) parts i (k, part) (omega (arith, length-range_with_len 0 n)) few in
-    let bytes = ap (λ (p : ℕ × List ℕ). p.1) at ∙ ap (λ l. get_or l i part) front ∙ chunk_at (length buffer / 256) buffer i part (omega arith) in
-    record {
-      within = within;
-      place = ap (λ (p : ℕ × List ℕ). p.0) at ∙ get_or-range_with_len 0 n i k within ∙ zero-add i;
-      bytes = bytes;
-      whole = ap length bytes ∙ simp (length-take, length-drop) (omega arith);
-    }
-
-pub turn_of : (n : ℕ) (buffer : List ℕ) (parts : List (List ℕ)) → 256 * n ≤ length buffer → parts ≡ first_chunks 256 (length buffer / 256) buffer → length parts ≡ length buffer / 256 →
-    (s z : Zip (Range ℕ) (Iter (List ℕ))) → s ≡ z → zip_first z ≡ record { start = 0; end = n } → iter_rest (zip_second z) ≡ parts →
-    (yielded : List (ℕ × Bor (List ℕ))) (t u : Zip (Range ℕ) (Iter (List ℕ))) → Yields (zips nat_range_steps fronts) s yielded t →
-    (r : Option (ℕ × Bor (List ℕ))) (k : ℕ) (part : Bor (List ℕ)) → r ≡ Some (k, part) → zips nat_range_steps fronts t r u → Turn n (length yielded) k buffer part.now
-turn_of n buffer parts room front long s z same first second yielded t u y r k part is steps =
-    let road = YieldsList-at same (YieldsList-from_zip {s = z} (YieldsList-from_range 0 n n first (omega arith)) (YieldsList-from_slice parts second)) in
-    turn_at n (length yielded) k buffer part.now parts room front long (YieldsList-turn road yielded t y r u (k, part) is steps)
+-- What turn k of the loop has: block k's part of the buffer.
+abbrev pub part_at : ℕ → List ℕ → List ℕ
+part_at k buffer = take (256 * k + 256 - 256 * k) (drop (256 * k) buffer)
 
 -- After k of n blocks: what is left to write gives what the whole gives.
 pub record WrittenSoFar (bs now : List Block) (b a u k n : ℕ) (buffer : List ℕ) : Type 0 where
@@ -146,57 +104,60 @@ none_written bs b a u n buffer = record {
 }
 
 -- The fault and the store that one more block leaves.
-module _ (bs now now' : List Block) (b a u k n p : ℕ) (buffer part : List ℕ) (met : Option HostFault) (before : WrittenSoFar bs now b a u k n buffer) (turn : Turn n k p buffer part)
-    (answers : met ≡ met_by (converted (write_at (b + p) (slice_get now (b + p)))) u (a + p)) (writes : now' ≡ written now (b + p) part) where
+module _ (bs now now' : List Block) (b a u k n : ℕ) (buffer : List ℕ) (met : Option HostFault) (before : WrittenSoFar bs now b a u k n buffer) (within : k < n) (room : 256 * n ≤ length buffer)
+    (answers : met ≡ met_by (converted (write_at (b + k) (slice_get now (b + k)))) u (a + k)) (writes : now' ≡ written now (b + k) (part_at k buffer)) where
   left : n - k ≡ suc (n - (k + 1))
-  left = let h = turn.within in omega arith
-
-  answers_here : met ≡ met_by (converted (write_at (b + k) (slice_get now (b + k)))) u (a + k)
-  answers_here = answers ∙ ap (λ i. met_by (converted (write_at (b + i) (slice_get now (b + i)))) u (a + i)) turn.place
-
-  writes_here : now' ≡ written now (b + k) part
-  writes_here = writes ∙ ap (λ i. written now (b + i) part) turn.place
+  left = omega arith
 
   abbrev ahead : List ℕ
   ahead = drop (256 * k) buffer
 
+  abbrev part : List ℕ
+  part = part_at k buffer
+
+  bytes : part ≡ take 256 ahead
+  bytes = let all : 256 * k + 256 - 256 * k ≡ 256 = omega arith in ap (λ j. take j ahead) all
+
+  whole : length part ≡ 256
+  whole = simp (length-take, length-drop) (omega arith)
+
   pub one_more : is_some met ≡ false → WrittenSoFar bs now' b a u (k + 1) n buffer
   one_more none =
-      let fine = fine_of (write_at (b + k) (slice_get now (b + k))) u (a + k) (ap is_some (sym answers_here) ∙ none) in
+      let fine = fine_of (write_at (b + k) (slice_get now (b + k))) u (a + k) (ap is_some (sym answers) ∙ none) in
       let on : suc (b + k) ≡ b + (k + 1) = omega arith in
       let up : suc (a + k) ≡ a + (k + 1) = omega arith in
       let m = n - (k + 1) in
       record {
         tried =
-            ap (λ l. k + 1 + tried_of l (b + (k + 1)) m) writes_here
+            ap (λ l. k + 1 + tried_of l (b + (k + 1)) m) writes
             ∙ ap (λ j. k + 1 + tried_of (written now (b + k) part) j m) (sym on)
-            ∙ omega (arith, tried_on now (b + k) (a + k) u m ahead part turn.bytes turn.whole fine, ap (tried_of now (b + k)) left, before.tried);
+            ∙ omega (arith, tried_on now (b + k) (a + k) u m ahead part bytes whole fine, ap (tried_of now (b + k)) left, before.tried);
         fault =
-            ap (λ l. fault_of u l (b + (k + 1)) (a + (k + 1)) m) writes_here
+            ap (λ l. fault_of u l (b + (k + 1)) (a + (k + 1)) m) writes
             ∙ ap₂ (λ i j. fault_of u (written now (b + k) part) i j m) (sym on) (sym up)
-            ∙ sym (fault_on now (b + k) (a + k) u m ahead part turn.bytes turn.whole fine)
+            ∙ sym (fault_on now (b + k) (a + k) u m ahead part bytes whole fine)
             ∙ ap (fault_of u now (b + k) (a + k)) (sym left)
             ∙ before.fault;
         after =
-            ap (λ l. after_of l (b + (k + 1)) m (drop (256 * (k + 1)) buffer)) writes_here
+            ap (λ l. after_of l (b + (k + 1)) m (drop (256 * (k + 1)) buffer)) writes
             ∙ ap₂ (λ j l. after_of (written now (b + k) part) j m l) (sym on) (sym (drop-drop 256 (256 * k) buffer ∙ ap (λ i. drop i buffer) (omega arith)))
-            ∙ sym (after_on now (b + k) (a + k) u m ahead part turn.bytes turn.whole fine)
+            ∙ sym (after_on now (b + k) (a + k) u m ahead part bytes whole fine)
             ∙ ap (λ i. after_of now (b + k) i ahead) (sym left)
             ∙ before.after;
       }
 
-  pub stopped_there : is_some met ≡ true → (p + 1 ≡ tried_of bs b n) × (met ≡ fault_of u bs b a n) × (now' ≡ after_of bs b n buffer)
+  pub stopped_there : is_some met ≡ true → (k + 1 ≡ tried_of bs b n) × (met ≡ fault_of u bs b a n) × (now' ≡ after_of bs b n buffer)
   stopped_there some =
-      let bad = bad_of (write_at (b + k) (slice_get now (b + k))) u (a + k) (ap is_some (sym answers_here) ∙ some) in
+      let bad = bad_of (write_at (b + k) (slice_get now (b + k))) u (a + k) (ap is_some (sym answers) ∙ some) in
       let m = n - (k + 1) in (
-        omega (arith, turn.place, tried_stops now (b + k) (a + k) u m ahead part turn.bytes turn.whole bad.0 bad.1, ap (tried_of now (b + k)) left, before.tried),
-        answers_here
+        omega (arith, tried_stops now (b + k) (a + k) u m ahead part bytes whole bad.0 bad.1, ap (tried_of now (b + k)) left, before.tried),
+        answers
             ∙ ap (λ r. met_by (converted r) u (a + k)) bad.1
-            ∙ sym (fault_stops now (b + k) (a + k) u m ahead part turn.bytes turn.whole bad.0 bad.1)
+            ∙ sym (fault_stops now (b + k) (a + k) u m ahead part bytes whole bad.0 bad.1)
             ∙ ap (fault_of u now (b + k) (a + k)) (sym left)
             ∙ before.fault,
-        writes_here
-            ∙ sym (after_stops now (b + k) (a + k) u m ahead part turn.bytes turn.whole bad.0 bad.1)
+        writes
+            ∙ sym (after_stops now (b + k) (a + k) u m ahead part bytes whole bad.0 bad.1)
             ∙ ap (λ i. after_of now (b + k) i ahead) (sym left)
             ∙ before.after,
       )

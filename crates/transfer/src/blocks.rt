@@ -1,7 +1,8 @@
-ghost use Rattle.std.specs.Prelude.{◌≡◌, ◌+◌, ◌*◌, ◌^◌, ◌<◌, ◌≤◌, ◌++◌, length, drop};
+ghost use Rattle.std.specs.Prelude.{◌≡◌, ◌+◌, ◌*◌, ◌^◌, ◌<◌, ◌≤◌, ◌++◌, length, drop, replicate, Some};
 ghost use Rattle.std.specs.List.{slice_get};
+ghost use Rattle.std.specs.Result.{result_err};
 ghost use Rattle.store.specs.Blocks.{read_at, buffer_at, write_at, written};
-ghost use Rattle.host.specs.Progress.{segment_of};
+ghost use Rattle.host.specs.Progress.{first_fault, segment_of};
 ghost use Rattle.transfer.specs.Segments.{zeros, met_by, converted, read_fault, read_bytes, write_fault, write_tried, put, laid};
 
 use host::fault::{HostFault, TransferFault};
@@ -42,17 +43,38 @@ impl Span {
         }
     }
 
-    /// Reads block k into its part of a buffer, and tells the fault. One that cannot be read reads as zeros.
-    fn read_one<S: Store>(&self, store: &mut S, k: u32, part: &mut [u8]) -> Option<HostFault>
+    /// Makes zeros of the part of a buffer whose block k cannot be read, and keeps the fault if it is the first.
+    // Out of line, so that the loops over blocks that can be read hold no fault.
+    #[cold]
+    #[inline(never)]
+    fn miss(&self, k: u32, refusal: StoreFault, part: &mut [u8], first: &mut Option<HostFault>)
+        requires { k < segment_of self.now.transaction }
+        ensures part { part.new ≡ replicate (length part.old) 0 }
+        ensures fault { first.new ≡ first_fault first.old (Some (record { fault = record { store = refusal }; unit = self.now.transaction.unit; address = self.now.transaction.at + k })) }
+    {
+        part.fill(0);
+        *first = first.or(Some(self.fault(k, refusal)));
+    }
+
+    /// Reads block k into its part of a buffer. One that cannot be read reads as zeros, and its fault is kept if it is the first.
+    // Inlined, since a call would cost as much as all that is asked of a block.
+    #[inline(always)]
+    fn read_one<S: Store>(
+        &self,
+        store: &mut S,
+        k: u32,
+        part: &mut [u8],
+        first: &mut Option<HostFault>,
+    )
         requires within { k < segment_of self.now.transaction }
         requires whole { length part.old ≡ 256 }
-        ensures fault { result ≡ met_by (converted (read_at (self.now.first + k) (slice_get (S.Store.blocks store.old) (self.now.first + k)))) self.now.transaction.unit (self.now.transaction.at + k) }
+        ensures fault { first.new ≡ first_fault first.old (met_by (converted (read_at (self.now.first + k) (slice_get (S.Store.blocks store.old) (self.now.first + k)))) self.now.transaction.unit (self.now.transaction.at + k)) }
         ensures part { part.new ≡ buffer_at zeros (slice_get (S.Store.blocks store.old) (self.now.first + k)) }
         ensures same { S.Store.blocks store.new ≡ S.Store.blocks store.old }
     {
-        let fault = store.read(self.first + k, part).err()?;
-        part.fill(0);
-        Some(self.fault(k, fault))
+        if let Err(refusal) = store.read(self.first + k, part) {
+            self.miss(k, refusal, part, first);
+        }
     }
 
     /// Reads the blocks into the front of the buffer, and tells the first fault.
@@ -67,7 +89,7 @@ impl Span {
             // Over `chunks_exact_mut` the proof doesn't close: its contract doesn't say what the buffer ends as.
             let from = BLOCK_BYTES * k as usize;
             let part = &mut buffer[from..from + BLOCK_BYTES];
-            fault = fault.or(self.read_one(store, k, part));
+            self.read_one(store, k, part, &mut fault);
         }
         fault
     }
@@ -82,24 +104,23 @@ impl Span {
         let mut scratch = [0u8; BLOCK_BYTES];
         let mut fault = None;
         for k in 0..self.count() {
-            fault = fault.or(self.read_one(store, k, &mut scratch));
+            self.read_one(store, k, &mut scratch, &mut fault);
         }
         fault
     }
 
     /// Writes block k, and tells the fault.
-    fn write_one<S: Store>(
-        &self,
-        store: &mut S,
-        k: u32,
-        part: &[u8; BLOCK_BYTES],
-    ) -> Option<HostFault>
-        requires { k < segment_of self.now.transaction }
-        ensures fault { result ≡ met_by (converted (write_at (self.now.first + k) (slice_get (S.Store.blocks store.old) (self.now.first + k)))) self.now.transaction.unit (self.now.transaction.at + k) }
+    // Inlined, as `read_one` is.
+    #[inline(always)]
+    fn write_one<S: Store>(&self, store: &mut S, k: u32, part: &[u8]) -> Result<(), HostFault>
+        requires within { k < segment_of self.now.transaction }
+        requires whole { length part.now ≡ 256 }
+        ensures fault { result_err result ≡ met_by (converted (write_at (self.now.first + k) (slice_get (S.Store.blocks store.old) (self.now.first + k)))) self.now.transaction.unit (self.now.transaction.at + k) }
         ensures after { S.Store.blocks store.new ≡ written (S.Store.blocks store.old) (self.now.first + k) part.now }
     {
-        let fault = store.write(self.first + k, part).err()?;
-        Some(self.fault(k, fault))
+        store
+            .write(self.first + k, part)
+            .map_err(|refusal| self.fault(k, refusal))
     }
 
     /// Writes the blocks from the front of the buffer until one refuses, and tells how many were tried and the fault.
@@ -109,11 +130,10 @@ impl Span {
         ensures fault { result.1 ≡ write_fault self.now.transaction.unit self.now.first self.now.transaction.at (in_span self.now (S.Store.blocks store.old)) }
         ensures after { S.Store.blocks store.new ≡ laid (S.Store.blocks store.old) self.now.first (put self.now.first (in_span self.now (S.Store.blocks store.old)) buffer.now) }
     {
-        let (parts, _) = buffer.as_chunks::<BLOCK_BYTES>();
-        for (k, part) in (0..self.count()).zip(parts) {
-            let fault = self.write_one(store, k, part);
-            if fault.is_some() {
-                return (k + 1, fault);
+        for k in 0..self.count() {
+            let from = BLOCK_BYTES * k as usize;
+            if let Err(fault) = self.write_one(store, k, &buffer[from..from + BLOCK_BYTES]) {
+                return (k + 1, Some(fault));
             }
         }
         (self.count(), None)

@@ -1,24 +1,26 @@
-use Rattle.std.proofs.Common.{map, ap, ◌∙◌}
+use Rattle.std.proofs.Common.{◌≡◌, List, length, get_or, set, None, sym, ap, refl, ◌∙◌, subst, arith, rules}
 use Rattle.std.proofs.lemmas.List.{set-get_or}
-use Rattle.cache.specs.Caches.{no_slot, without}
-use Rattle.cache.proofs.CacheFacts.{same_held, put_found, put_missing}
+use Rattle.cache.specs.declared.slot.Slot.{Slot}
+use Rattle.cache.specs.Once.{Once}
+use Rattle.cache.specs.Caches.{held, no_slot, without_block}
+use Rattle.cache.proofs.CacheFacts.{same_held}
+use Rattle.cache.proofs.OnceFacts.{flushed, once_vacant}
 use Rattle.cache.proofs.cache.Cache.flush.Goals as goal
-use Rattle.cache.proofs.cache.Cache.flush.Goals.{in-Some, in_default}
 
-pub returns : goal.returns
-returns g c =
+-- the slots are lent for their bytes, and come back as they were
+pub invariant_of-self : goal.invariant_of-self
+invariant_of-self g c =
     let s = c.args.self.now in
+    let p = c.args.place in
+    let once = once_vacant s.slots p (get_or s.slots p no_slot).bytes s.once in
+    record { once = subst (λ (l : List Slot). Once (set l p (record { block = None; bytes = (get_or l p no_slot).bytes }))) (sym (set-get_or s.slots p no_slot)) once }
+
+pub returns-in-Some : goal.returns-in-Some
+returns-in-Some g c =
+    let s = c.args.self.now in
+    let p = c.args.place in
     let bs = g.S.Store.blocks s.below in
-    let b = c.args.block in
-    elim c.match-find.branch [
-      | in-Some w ↦
-          same_held
-          (c.forget.ensures ∙ ap (λ m. map (without b) m.slots) w.self-is ∙ ap (map (without b)) (set-get_or s.slots w.in-Some.place no_slot))
-          (ap (λ m. g.S.Store.blocks m.below) w.self-is ∙ w.write.ensures.after ∙ put_found bs s.slots b w.in-Some.place w.in-Some.ensures.place)
-          (ap (λ m. m.turn) w.self-is)
-      | in_default w ↦
-          same_held
-          (c.forget.ensures ∙ ap (λ m. map (without b) m.slots) w.self-is)
-          (ap (λ m. g.S.Store.blocks m.below) w.self-is ∙ put_missing bs s.slots b w.in_default.ensures.place)
-          (ap (λ m. m.turn) w.self-is)
-    ]
+    let eight : length c.args.self.now.slots ≡ 8 = search rules in
+    let back = ap (λ (l : List Slot). set l p (record { block = None; bytes = (get_or l p no_slot).bytes })) (set-get_or s.slots p no_slot) in
+    let f = flushed bs s.slots p c.in-Some.block s.once (omega (arith, eight, c.requires)) c.in-Some.is in
+    same_held (back ∙ f.0) (c.write.ensures.after ∙ f.1) refl ∙ ap (without_block (held g.S.Store.blocks s)) (sym c.in-Some.is)

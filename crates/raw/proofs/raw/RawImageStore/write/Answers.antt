@@ -1,6 +1,7 @@
-use Rattle.std.proofs.Common.{◌≡◌, ◌+◌, ◌-◌, ◌*◌, ◌<◌, length, set, sym, ◌∙◌, arith, rules}
+use Rattle.std.proofs.Common.{◌≡◌, ◌+◌, ◌-◌, ◌*◌, ◌<◌, length, set, sym, ◌∙◌, arith, rules, length-set}
+use Rattle.std.proofs.lemmas.List.{length-take, length-drop}
 use Rattle.store.proofs.Writes.{permitted}
-use Rattle.image.proofs.Parts.{laid_over}
+use Rattle.image.proofs.Parts.{copied, laid_over}
 use Rattle.raw.specs.Raw.{raw_record, raw_size}
 use Rattle.raw.specs.Lawful.{inside_raw}
 use Rattle.raw.proofs.RawBlocks.{raw_writes, raw_wrote, writes_record}
@@ -18,4 +19,6 @@ returns c =
     let g = writes_record s.bytes.now (raw_record s.spares.now s.records c.args.block) c.args.bytes.now (inside_raw s.spares.now (length s.bytes.now) s.records c.args.block h) w in
     let from = 276 * raw_record s.spares.now s.records c.args.block + 6 in
     let l = laid_over (set s.bytes.now (276 * raw_record s.spares.now s.records c.args.block) 0) from (from + 256 - from) c.args.bytes.now (omega arith) in
+    let k = c.start-at.ensures.inside in
+    let done = c.copy_block.ensures ∙ copied _ _ w (simp (length-take, length-drop, length-set) (omega (arith, k))) in
     search rules
