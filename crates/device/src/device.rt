@@ -1,8 +1,7 @@
 ghost use Rattle.std.specs.Prelude.{◌≡◌, ◌<◌, length};
 ghost use Rattle.device.specs.Answers.{command_answer, segment_answer, report_answer, cancel_answer, clear_answer, notice_answer, fault_answer};
 ghost use Rattle.device.specs.Calls.{command, segment, report, cancel, clear, notice, fault};
-ghost use Rattle.device.specs.Callers.{known};
-ghost use Rattle.device.specs.Device.{state, after, taken, parameters_of, locks_of, power_on as at_power_on};
+ghost use Rattle.device.specs.Device.{state, after, parameters_of, locks_of, power_on as at_power_on};
 ghost use Rattle.device.specs.Describing.{DescribingFrom};
 ghost use Rattle.device.specs.Isolation.{IsolationFrom};
 ghost use Rattle.device.specs.Laws.{ApartnessFrom, ExclusionFrom, WaitsFrom};
@@ -19,9 +18,7 @@ use flex::unit_map::UnitMap;
 use host::fault::HostFault;
 use host::locks::Locks;
 use host::mail::Mail;
-use host::record::{Host, is_blocked};
-use host::want::Want;
-use message::message::Message;
+use host::record::Host;
 use message::parameters::Parameters;
 use store::calls::settle_down;
 use store::store::Store;
@@ -40,47 +37,21 @@ impl<S: Store> Device<S> {
     pub fn command(&mut self, host: u8, bytes: &[u8]) -> Result<Ticket, Status>
         ensures { (command_answer result, state S.Store.blocks self.new) ≡ after (state S.Store.blocks self.old) (command host bytes.now) }
     {
-        let mut caller = self.controller.caller(host)?;
+        let caller = self.controller.caller(host)?;
         let reaches = self.controller.map.end() <= self.store.size();
-        match caller.host.judge(&self.controller.map, reaches, bytes) {
-            Err(status) => {
-                caller.host.refuse(status);
-                self.controller.put_back(caller);
-                Err(status)
-            }
-            Ok(message) => self.take(caller, message),
-        }
-    }
-
-    /// A message at the lock check: it is waited for where something stands in its way, and accepted otherwise.
-    fn take(&mut self, mut caller: Caller, message: Message) -> Result<Ticket, Status>
-        ensures controller_after { (command_answer result, self.new.controller) ≡ taken self.old.controller caller.number (known caller) message }
-        ensures store_unchanged { self.new.store ≡ self.old.store }
-    {
-        let host = caller.number;
-        let want = Want::of(message);
-        if is_blocked(&self.controller.hosts, host, want) {
-            caller.mail.wait_for(want);
-            self.controller.put_back(caller);
-            return Err(Status::ResourceUnavailable);
-        }
-        let phase = caller.host.accept(&self.controller.map, message);
-        self.controller.put_back(caller);
-        Ok(Ticket::of(self.controller.number, host, phase))
+        self.controller.command(caller, reaches, bytes)
     }
 
     /// Ends a host's interlock and restores its values; its locks, notice, wait and fault are dropped.
     pub fn clear(&mut self, host: u8) -> Result<(), Status>
         ensures { (clear_answer result, state S.Store.blocks self.new) ≡ after (state S.Store.blocks self.old) (clear host) }
     {
-        let mut caller = self.controller.caller(host)?;
-        if caller.host.transaction.is_some() {
+        let caller = self.controller.caller(host)?;
+        if self.controller.host(caller).transaction.is_some() {
             self.controller.judge_waits();
             return Err(Status::MessageSequence);
         }
-        caller.host = Host::cleared();
-        caller.mail = Mail::silent();
-        self.controller.put_back(caller);
+        self.controller.clear(caller);
         Ok(())
     }
 
@@ -88,10 +59,8 @@ impl<S: Store> Device<S> {
     pub fn notice(&mut self, host: u8) -> Result<Option<Status>, Status>
         ensures { (notice_answer result, state S.Store.blocks self.new) ≡ after (state S.Store.blocks self.old) (notice host) }
     {
-        let mut caller = self.controller.caller(host)?;
-        let told = caller.mail.take_notice();
-        self.controller.put_back(caller);
-        Ok(told)
+        let caller = self.controller.caller(host)?;
+        Ok(self.controller.take_notice(caller))
     }
 
     /// The first store fault since a host's latest accepted message, or none.
@@ -100,7 +69,7 @@ impl<S: Store> Device<S> {
     {
         let caller = self.controller.caller(host)?;
         self.controller.judge_waits();
-        Ok(caller.host.fault)
+        Ok(self.controller.host(caller).fault)
     }
 
     /// Moves the next segment of a transaction, and exchanges its ticket for the next.
@@ -181,16 +150,16 @@ impl<S: Store> Device<S> {
     pub fn parameters(&self, host: u8) -> Result<Parameters, Status>
         ensures { result ≡ parameters_of self.now.controller host }
     {
-        let caller = self.controller.find(host).ok_or(Status::BadHost)?;
-        Ok(caller.host.parameters)
+        let caller = Caller::find(host).ok_or(Status::BadHost)?;
+        Ok(self.controller.host(caller).parameters)
     }
 
     /// A host's locks.
     pub fn locks(&self, host: u8) -> Result<Locks, Status>
         ensures { result ≡ locks_of self.now.controller host }
     {
-        let caller = self.controller.find(host).ok_or(Status::BadHost)?;
-        Ok(caller.host.locks)
+        let caller = Caller::find(host).ok_or(Status::BadHost)?;
+        Ok(self.controller.host(caller).locks)
     }
 
     /// How many blocks segments have asked the store to read or write since power on.

@@ -49,16 +49,15 @@ impl Mail {
         self.notice.take()
     }
 
-    /// The mail of the host at a place of the table, once its wait has been judged.
-    fn settled(self, hosts: &[Host], place: usize) -> Mail
-        ensures { result ≡ settled hosts.now place self }
+    /// Judges the wait of the host at a place of the table.
+    fn settle(&mut self, hosts: &[Host], place: usize)
+        ensures { self.new ≡ settled hosts.now place self.old }
     {
-        match self.wait {
-            Some(want) if !another_stands(hosts, place, want) => Mail {
-                wait: None,
-                notice: Some(want.notice()),
-            },
-            _ => self,
+        if let Some(want) = self.wait
+            && !another_stands(hosts, place, want)
+        {
+            self.wait = None;
+            self.notice = Some(want.notice());
         }
     }
 }
@@ -68,6 +67,6 @@ pub fn settle(hosts: &[Host], mail: &mut [Mail])
     ensures { mail.new ≡ settle hosts.now mail.old }
 {
     for (place, mail) in mail.iter_mut().enumerate() {
-        *mail = mail.settled(hosts, place);
+        mail.settle(hosts, place);
     }
 }

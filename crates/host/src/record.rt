@@ -156,7 +156,10 @@ impl Host {
             self.parameters.address = transaction.address_past(progress.tried);
         }
         self.transaction = Some(transaction.advanced(progress));
-        self.fault = self.fault.or(progress.fault);
+        // not by `or`, which would copy a fault where there is none
+        if self.fault.is_none() && progress.fault.is_some() {
+            self.fault = progress.fault;
+        }
     }
 
     /// Ends its transaction.

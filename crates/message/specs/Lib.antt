@@ -2,4 +2,5 @@ pub mod Commands
 pub mod Messages
 pub mod Operands
 pub mod Decoding
+pub mod Drafts
 pub mod Arrangements

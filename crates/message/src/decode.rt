@@ -1,6 +1,8 @@
 ghost use Rattle.std.specs.Prelude.{◌≡◌};
 ghost use Rattle.message.specs.Arrangements.{Accepts, Refuses};
-ghost use Rattle.message.specs.Decoding.{amount_set, command_set, decoded, place_set, scan, step, vector_set};
+ghost use Rattle.message.specs.Decoding.{amount_set, command_set, decoded, place_set, scan, step, taking, vector_set};
+ghost use Rattle.message.specs.Drafts.{drafted, stepped};
+ghost use Rattle.message.specs.Messages.{with_unit};
 
 use super::command::Command;
 use super::draft::Draft;
@@ -13,51 +15,64 @@ use flex::unit_map::UnitMap;
 /// The most bytes of a message.
 const LONGEST: usize = 1024;
 
+// Each of these changes a draft, and says how many of the bytes after the code it took.
+
 /// Set Address with a single address.
-fn set_address(map: &UnitMap, draft: Draft, rest: &[u8]) -> Result<(Draft, usize), Status>
-    ensures { result ≡ place_set map.now draft rest.now }
+fn set_address(map: &UnitMap, draft: &mut Draft, rest: &[u8]) -> Result<usize, Status>
+    ensures { stepped draft.new result ≡ place_set map.now draft.old rest.now }
 {
     let address = number::<6>(rest).ok_or(Status::MessageLength)?;
-    Ok((draft.with_address(map, address)?, 6))
+    draft.set_address(map, address)?;
+    Ok(6)
 }
 
 /// Set Address with a vector.
-fn set_vector(map: &UnitMap, draft: Draft, rest: &[u8]) -> Result<(Draft, usize), Status>
-    ensures { result ≡ vector_set map.now draft rest.now }
+fn set_vector(map: &UnitMap, draft: &mut Draft, rest: &[u8]) -> Result<usize, Status>
+    ensures { stepped draft.new result ≡ vector_set map.now draft.old rest.now }
 {
     let vector = vector(rest).ok_or(Status::MessageLength)?;
-    Ok((draft.with_vector(map, vector)?, 6))
+    draft.set_vector(map, vector)?;
+    Ok(6)
 }
 
-fn set_length(draft: Draft, rest: &[u8]) -> Result<(Draft, usize), Status>
-    ensures { result ≡ amount_set draft rest.now }
+fn set_length(draft: &mut Draft, rest: &[u8]) -> Result<usize, Status>
+    ensures { stepped draft.new result ≡ amount_set draft.old rest.now }
 {
     let length = number::<4>(rest).ok_or(Status::MessageLength)?;
-    Ok((draft.with_length(length as u32)?, 4))
+    draft.set_length(length as u32)?;
+    Ok(4)
 }
 
-fn set_command(draft: Draft, code: u8) -> Result<(Draft, usize), Status>
-    ensures { result ≡ command_set draft code }
+fn set_unit(map: &UnitMap, draft: &mut Draft, number: u8) -> Result<usize, Status>
+    ensures { stepped draft.new result ≡ taking 0 (with_unit map.now draft.old number) }
+{
+    draft.set_unit(map, number)?;
+    Ok(0)
+}
+
+fn set_command(draft: &mut Draft, code: u8) -> Result<usize, Status>
+    ensures { stepped draft.new result ≡ command_set draft.old code }
 {
     let command = Command::try_from(code)?;
     if !draft.takes_command() {
         return Err(Status::MessageSequence);
     }
-    Ok((draft.with_command(command), 0))
+    draft.set_command(command);
+    Ok(0)
 }
 
 /// What a code makes of a draft, and how many of the bytes after it it takes.
 // A count and not the bytes that are left: those are no plainer, since each function that reads operands would name a
 // lifetime, and each of their contracts would have to say what is dropped.
-fn step(map: &UnitMap, draft: Draft, code: u8, rest: &[u8]) -> Result<(Draft, usize), Status>
-    ensures { result ≡ step map.now draft code rest.now }
+fn step(map: &UnitMap, draft: &mut Draft, code: u8, rest: &[u8]) -> Result<usize, Status>
+    ensures { stepped draft.new result ≡ step map.now draft.old code rest.now }
 {
     match code {
         // No Op
-        0x34 => Ok((draft, 0)),
+        0x34 => Ok(0),
         // Set Unit
         0x20..=0x2f if !draft.takes_unit() => Err(Status::MessageSequence),
-        0x20..=0x2f => Ok((draft.with_unit(map, code - 0x20)?, 0)),
+        0x20..=0x2f => set_unit(map, draft, code - 0x20),
         // Set Address
         0x10..=0x11 if !draft.takes_address() => Err(Status::MessageSequence),
         0x10 => set_address(map, draft, rest),
@@ -71,16 +86,15 @@ fn step(map: &UnitMap, draft: Draft, code: u8, rest: &[u8]) -> Result<(Draft, us
 }
 
 /// The codes of a message from left to right, or the status of the first at fault.
-fn scan(map: &UnitMap, mut draft: Draft, message: &[u8]) -> Result<Draft, Status>
-    ensures { result ≡ scan map.now message.now 0 draft }
+fn scan(map: &UnitMap, draft: &mut Draft, message: &[u8]) -> Result<(), Status>
+    ensures { drafted draft.new result ≡ scan map.now message.now 0 draft.old }
 {
     let mut left = message;
     while let [code, rest @ ..] = left {
-        let (next, taken) = step(map, draft, *code, rest)?;
-        draft = next;
+        let taken = step(map, draft, *code, rest)?;
         left = &rest[taken..];
     }
-    Ok(draft)
+    Ok(())
 }
 
 /// What a command message asks for, from a host with those parameters; or the first status.
@@ -92,5 +106,7 @@ pub fn decode(map: &UnitMap, own: Parameters, message: &[u8]) -> Result<Message,
     if message.is_empty() || message.len() > LONGEST {
         return Err(Status::MessageLength);
     }
-    Ok(scan(map, Draft::new(own), message)?.finish())
+    let mut draft = Draft::new(own);
+    scan(map, &mut draft, message)?;
+    Ok(draft.finish())
 }

@@ -1,6 +1,7 @@
 ghost use Rattle.std.specs.Prelude.{◌≡◌, ok_or};
 ghost use Rattle.flex.specs.Maps.{geometry_at};
 ghost use Rattle.flex.specs.declared.status.Status.TheVariants.{AddressBounds};
+ghost use Rattle.message.specs.Drafts.{drafted};
 ghost use Rattle.message.specs.Messages.{effective, finished, starting, takes_address, takes_command, takes_length, takes_unit, with_address, with_command, with_length, with_unit, with_vector};
 
 use super::command::Command;
@@ -40,107 +41,96 @@ impl Draft {
     }
 
     /// Whether Set Unit may come: only as long as nothing but No Op has.
-    pub(super) fn takes_unit(self) -> bool
-        ensures { result ≡ takes_unit self }
+    pub(super) fn takes_unit(&self) -> bool
+        ensures { result ≡ takes_unit self.now }
     {
         self.unit.is_none() && self.takes_address() && self.takes_length()
     }
 
     /// Whether Set Address may come.
-    pub(super) fn takes_address(self) -> bool
-        ensures { result ≡ takes_address self }
+    pub(super) fn takes_address(&self) -> bool
+        ensures { result ≡ takes_address self.now }
     {
         self.address.is_none() && self.takes_command()
     }
 
     /// Whether Set Length may come.
-    pub(super) fn takes_length(self) -> bool
-        ensures { result ≡ takes_length self }
+    pub(super) fn takes_length(&self) -> bool
+        ensures { result ≡ takes_length self.now }
     {
         self.length.is_none() && self.takes_command()
     }
 
     /// Whether a real command may come.
-    pub(super) fn takes_command(self) -> bool
-        ensures { result ≡ takes_command self }
+    pub(super) fn takes_command(&self) -> bool
+        ensures { result ≡ takes_command self.now }
     {
         self.command.is_none()
     }
 
     /// The unit in effect.
-    fn effective(self) -> u8
-        ensures { result ≡ effective self }
+    fn effective(&self) -> u8
+        ensures { result ≡ effective self.now }
     {
         self.unit.unwrap_or(self.own.unit)
     }
 
-    pub(super) fn with_unit(self, map: &UnitMap, number: u8) -> Result<Draft, Status>
-        ensures { result ≡ with_unit map.now self number }
+    pub(super) fn set_unit(&mut self, map: &UnitMap, number: u8) -> Result<(), Status>
+        ensures { drafted self.new result ≡ with_unit map.now self.old number }
     {
         map.geometry(number).ok_or(Status::ModuleAddressing)?;
-        Ok(Draft {
-            unit: Some(number),
-            ..self
-        })
+        self.unit = Some(number);
+        Ok(())
     }
 
     /// The geometry of the unit in effect.
-    fn geometry(self, map: &UnitMap) -> Result<Geometry, Status>
-        ensures { result ≡ ok_or (geometry_at map.now (effective self)) AddressBounds }
+    fn geometry(&self, map: &UnitMap) -> Result<Geometry, Status>
+        ensures { result ≡ ok_or (geometry_at map.now (effective self.now)) AddressBounds }
     {
         map.geometry(self.effective()).ok_or(Status::AddressBounds)
     }
 
-    /// With a single address, of six bytes.
-    pub(super) fn with_address(self, map: &UnitMap, address: u64) -> Result<Draft, Status>
-        ensures { result ≡ with_address map.now self address }
+    /// Sets a single address, of six bytes.
+    pub(super) fn set_address(&mut self, map: &UnitMap, address: u64) -> Result<(), Status>
+        ensures { drafted self.new result ≡ with_address map.now self.old address }
     {
         let geometry = self.geometry(map)?;
         if address >= u64::from(geometry.size()) {
             return Err(Status::AddressBounds);
         }
-        Ok(Draft {
-            address: Some(address as u32),
-            ..self
-        })
+        self.address = Some(address as u32);
+        Ok(())
     }
 
-    pub(super) fn with_vector(self, map: &UnitMap, vector: Vector) -> Result<Draft, Status>
-        ensures { result ≡ with_vector map.now self vector }
+    pub(super) fn set_vector(&mut self, map: &UnitMap, vector: Vector) -> Result<(), Status>
+        ensures { drafted self.new result ≡ with_vector map.now self.old vector }
     {
         let geometry = self.geometry(map)?;
         let address = geometry.address_at(vector).ok_or(Status::AddressBounds)?;
-        Ok(Draft {
-            address: Some(address),
-            ..self
-        })
+        self.address = Some(address);
+        Ok(())
     }
 
-    pub(super) fn with_length(self, length: u32) -> Result<Draft, Status>
-        ensures { result ≡ with_length self length }
+    pub(super) fn set_length(&mut self, length: u32) -> Result<(), Status>
+        ensures { drafted self.new result ≡ with_length self.old length }
     {
         if length % BLOCK == 0 || length == WHOLE_UNIT {
-            Ok(Draft {
-                length: Some(length),
-                ..self
-            })
+            self.length = Some(length);
+            Ok(())
         } else {
             Err(Status::ParameterBounds)
         }
     }
 
-    pub(super) fn with_command(self, command: Command) -> Draft
-        ensures { result ≡ with_command self command }
+    pub(super) fn set_command(&mut self, command: Command)
+        ensures { self.new ≡ with_command self.old command }
     {
-        Draft {
-            command: Some(command),
-            ..self
-        }
+        self.command = Some(command);
     }
 
     /// The message, once all codes have been taken.
-    pub(super) fn finish(self) -> Message
-        ensures { result ≡ finished self }
+    pub(super) fn finish(&self) -> Message
+        ensures { result ≡ finished self.now }
     {
         let unit = self.effective();
         let kept = if unit == self.own.unit {

@@ -3,7 +3,6 @@ use Rattle.device.specs.declared.controller.Controller.{Controller}
 use Rattle.device.specs.declared.ticket.Ticket.{Ticket}
 use Rattle.device.specs.declared.ticket.Ticket.TheVariants as tickets
 use Rattle.device.specs.Calls.{moved, returned}
-use Rattle.device.specs.Callers.{known}
 use Rattle.device.specs.Device.{state_of}
 use Rattle.device.proofs.Moving.{segment_moved_on, segment_refused}
 use Rattle.device.proofs.device.Device.segment.Goals as goal
@@ -15,8 +14,8 @@ returns-in-Err g c =
     let m = c.execute_segment in
     let by = c.in-Err.ensures in
     ap (λ (z : Controller). (returned c.in-Err.status (tickets.Execution c.args.ticket) m.new.buffer, state_of z (g.S.Store.blocks m.new.store))) c.judge_waits.ensures
-    ∙ segment_refused d.controller c.fitting.new.self found.left (g.S.Store.blocks d.store) c.args.ticket c.pass.result c.pass.ensures c.args.buffer.now c.in-Some.transaction (known c.in-Some.caller) found.kept
-    c.in-Some.caller.number found.number c.in-Err.status m.new.buffer (g.S.Store.blocks m.new.store) by.progress by.buffer by.after
+    ∙ segment_refused d.controller c.fitting.new.self found.left (g.S.Store.blocks d.store) c.args.ticket c.pass.result c.pass.ensures c.args.buffer.now c.in-Some.transaction c.in-Some.caller.number found.found
+    c.in-Err.status m.new.buffer (g.S.Store.blocks m.new.store) by.progress by.buffer by.after
 
 pub returns-in-Ok : goal.returns-in-Ok
 returns-in-Ok g c =
@@ -25,5 +24,5 @@ returns-in-Ok g c =
     let m = c.execute_segment in
     let by = c.in-Ok.ensures in
     ap (λ (z : Ticket × Controller). (moved z.0 m.new.buffer, state_of z.1 (g.S.Store.blocks m.new.store))) c.go_on.ensures
-    ∙ segment_moved_on d.controller c.fitting.new.self found.left (g.S.Store.blocks d.store) c.args.ticket c.pass.result c.pass.ensures c.args.buffer.now c.in-Some.transaction (known c.in-Some.caller) found.kept
-    c.in-Some.caller.number found.number c.in-Ok.progress m.new.buffer (g.S.Store.blocks m.new.store) by.progress by.buffer by.after
+    ∙ segment_moved_on d.controller c.fitting.new.self found.left (g.S.Store.blocks d.store) c.args.ticket c.pass.result c.pass.ensures c.args.buffer.now c.in-Some.transaction c.in-Some.caller.number found.found
+    c.in-Ok.progress m.new.buffer (g.S.Store.blocks m.new.store) by.progress by.buffer by.after
