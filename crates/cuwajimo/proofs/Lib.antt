@@ -4,3 +4,7 @@ mod Hexadecimal
 mod Layers
 mod Refilled
 mod Troubles
+mod Padding
+mod Sessions
+mod Filling
+mod Held

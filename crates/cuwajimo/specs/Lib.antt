@@ -9,3 +9,6 @@ pub mod Sums
 pub mod Troubles
 pub mod Words
 pub mod Numerals
+pub mod Holders
+pub mod Sessions
+pub mod Shown

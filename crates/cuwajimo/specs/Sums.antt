@@ -1,5 +1,7 @@
 -- The sum by which the program shows bytes.
-use Rattle.std.specs.Prelude.{ℕ, ◌*◌, ◌%◌, ◌^◌, List, [], ◌∷◌, bit_xor}
+use Rattle.std.specs.Prelude.{ℕ, ◌-◌, ◌*◌, ◌%◌, ◌^◌, false, List, [], ◌∷◌, ◌++◌, length, replicate, bit_xor}
+use Rattle.std.specs.Fmt.{digits}
+use Rattle.cuwajimo.specs.declared.fnv.Sum.{Sum}
 
 -- One more byte: xor, then times the FNV prime, in 64 bits.
 abbrev pub fnv_step : ℕ → ℕ → ℕ
@@ -12,3 +14,10 @@ fnv_from h (b ∷ bs) = fnv_from (fnv_step h b) bs
 -- The 64-bit FNV-1a hash, from the FNV offset basis on.
 abbrev pub fnv : List ℕ → ℕ
 fnv bytes = fnv_from 0xcbf29ce484222325 bytes
+
+-- A number in hexadecimal digits, at least so many of them, with zeros in front.
+abbrev pub hex_digits : ℕ → ℕ → List ℕ
+hex_digits least n = replicate (least - length (digits 16 false n)) 48 ++ digits 16 false n
+
+abbrev pub sum_of : List ℕ → Sum
+sum_of bytes = record { 0 = fnv bytes }

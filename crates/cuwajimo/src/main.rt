@@ -8,6 +8,7 @@ mod case;
 mod files;
 mod fill;
 mod fnv;
+mod holders;
 mod line;
 mod medium;
 mod pile;

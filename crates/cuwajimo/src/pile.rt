@@ -1,11 +1,12 @@
-ghost use Rattle.std.specs.Prelude.{◌≡◌};
+ghost use Rattle.std.specs.Prelude.{◌≡◌, Some};
 ghost use Rattle.layer.specs.Guards.{guarded};
 ghost use Rattle.layer.specs.Windows.{windowed};
 ghost use Rattle.cuwajimo.specs.Plans.{layers, NoLayer};
+ghost use Rattle.cuwajimo.specs.Shown.{block_said, protection_word, shown_at};
 
 use super::case::CaseRun;
 use super::fill::Mark;
-use super::fnv::fnv1a;
+use super::fnv::Sum;
 use super::medium::{Medium, OnImage};
 use super::plan::Plan;
 use super::session::{Ended, Outcome};
@@ -13,43 +14,88 @@ use super::trouble::Trouble;
 use cache::cache::Cache;
 use layer::guard::WriteGuard;
 use layer::window::Window;
+use std::fmt;
 use store::calls::fetch_block;
 use store::fault::Protection;
 use store::store::Store;
 
-/// Shows one block of a store.
-fn show_block<S: Store>(rt: &HostRuntime, store: &mut S, block: u32) -> Result<(), Trouble> {
-    let protection = match store.protection(block) {
-        Ok(Protection::Open) => "open",
-        Ok(Protection::Protected) => "protected",
-        Err(_) => {
-            println!(rt; "block {block}: beyond")?;
-            return Ok(());
-        }
-    };
-    match fetch_block(store, block) {
-        Ok(bytes) => {
-            let sum = fnv1a(&bytes);
-            println!(rt; "block {block}: sound {sum:016x}, {protection}")?;
-        }
-        Err(_) => println!(rt; "block {block}: damaged, {protection}")?,
-    }
-    Ok(())
+/// What a line tells of a block.
+#[derive(Clone, Copy)]
+enum Shown {
+    Beyond,
+    Sound { sum: Sum, protection: Protection },
+    Damaged { protection: Protection },
 }
 
-/// Shows so many blocks from the first on. A number past what counts blocks is beyond every store.
+/// A block of a pile: `block 3: sound 9f5c2a0e4d7b8316, open`.
+#[derive(Clone, Copy)]
+struct BlockSaid {
+    block: u64,
+    shown: Shown,
+}
+
+impl fmt::Display for BlockSaid {
+    ghost output = { λ said. Some (block_said said) };
+
+    fn fmt<W: fmt::Write>(&self, f: &mut fmt::Formatter<W>) -> fmt::Result {
+        let block = self.block;
+        match self.shown {
+            Shown::Beyond => write!(f, "block {block}: beyond"),
+            Shown::Sound { sum, protection } => {
+                let may = may(protection);
+                write!(f, "block {block}: sound {sum}, {may}")
+            }
+            Shown::Damaged { protection } => {
+                let may = may(protection);
+                write!(f, "block {block}: damaged, {may}")
+            }
+        }
+    }
+}
+
+/// The word for a protection.
+fn may(protection: Protection) -> &'static str
+    ensures { result.now ≡ protection_word protection }
+{
+    match protection {
+        Protection::Open => "open",
+        Protection::Protected => "protected",
+    }
+}
+
+/// Looks at a block of a store. A number past what counts blocks is beyond every store.
+fn look<S: Store>(store: &mut S, block: u64) -> Shown
+    ensures answer { result ≡ shown_at (S.Store.blocks store.old) block }
+    ensures same { S.Store.blocks store.new ≡ S.Store.blocks store.old }
+{
+    let Ok(block) = u32::try_from(block) else {
+        return Shown::Beyond;
+    };
+    let Ok(protection) = store.protection(block) else {
+        return Shown::Beyond;
+    };
+    match fetch_block(store, block) {
+        Ok(bytes) => Shown::Sound {
+            sum: Sum::of(&bytes),
+            protection,
+        },
+        Err(_) => Shown::Damaged { protection },
+    }
+}
+
+/// Shows so many blocks from the first on.
 fn show_blocks<S: Store>(
     rt: &HostRuntime,
     store: &mut S,
     first: u32,
     count: u32,
-) -> Result<(), Trouble> {
+) -> Result<(), Trouble>
+    ensures { S.Store.blocks store.new ≡ S.Store.blocks store.old }
+{
     let first = u64::from(first);
     for block in first..first + u64::from(count) {
-        match u32::try_from(block) {
-            Ok(block) => show_block(rt, store, block)?,
-            Err(_) => println!(rt; "block {block}: beyond")?,
-        }
+        let shown = look(store, block);
+        println!(rt; "{}", BlockSaid { block, shown })?;
     }
     Ok(())
 }

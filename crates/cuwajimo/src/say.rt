@@ -1,163 +1,190 @@
-ghost use Rattle.std.specs.Prelude.{◌≡◌};
-ghost use Rattle.cuwajimo.specs.Answers.{phase_word, kind_of_ticket, what_follows, holds, first_holder};
+ghost use Rattle.std.specs.Prelude.{◌≡◌, Some, take};
+ghost use Rattle.cuwajimo.specs.Answers.{host_said, told_words, lent_words, hex_text, met_words, parameters_words, done_words, goes_on, tells_buffer, wanted, lends};
 
-use super::call::Act;
-use super::fnv::fnv1a;
+use super::call::{Act, HostAct};
+use super::fnv::Sum;
 use super::trouble::Trouble;
-use device::controller::HOSTS;
-use device::device::Device;
-use device::ticket::Ticket;
-use flex::status::Status;
-use flex::unit_map::UNITS;
+use desk::answer::Answer;
 use host::fault::HostFault;
 use message::parameters::Parameters;
-use store::store::Store;
+use std::fmt;
 use transfer::report::REPORT_BYTES;
 
-// Each answer is one line, from the runtime to print by, the host and what the call came to. A type of the first two would
-// be made for one call each time: no plainer.
-
-/// `NAME H: refused 4/3`
-pub(super) fn refused(
-    rt: &HostRuntime,
-    name: &str,
-    host: u8,
-    status: Status,
-) -> Result<(), Trouble> {
-    println!(rt; "{name} {host}: refused {status}")?;
-    Ok(())
-}
-
-/// The rest of an answer's line: what the buffer holds after the call.
-fn say_buffer(rt: &HostRuntime, buffer: &[u8]) -> Result<(), Trouble> {
-    let size = buffer.len();
-    let sum = fnv1a(buffer);
-    println!(rt; ", buffer {size} {sum:016x}")?;
-    Ok(())
-}
-
-/// `NAME H: refused 128/5, buffer SIZE FNV`
-pub(super) fn refused_buffer(
-    rt: &HostRuntime,
-    name: &str,
-    host: u8,
-    status: Status,
-    buffer: &[u8],
-) -> Result<(), Trouble> {
-    print!(rt; "{name} {host}: refused {status}")?;
-    say_buffer(rt, buffer)
-}
-
-/// What a ticket is for: its transaction's segments, for which there is this word, or its report.
-fn phase(ticket: &Ticket, segments: &'static str) -> &'static str
-    ensures { result.now ≡ phase_word ticket.now segments.now }
-{
-    match ticket {
-        Ticket::Execution(_) => segments,
-        Ticket::Report(_) => "report",
-    }
-}
-
-/// What a command's ticket is for.
-pub(super) fn opened(ticket: &Ticket) -> &'static str
-    ensures { result.now ≡ kind_of_ticket ticket.now }
-{
-    phase(ticket, "execution")
-}
-
-/// What comes after a segment.
-pub(super) fn follows(ticket: &Ticket) -> &'static str
-    ensures { result.now ≡ what_follows ticket.now }
-{
-    phase(ticket, "more")
-}
-
-pub(super) fn moved(rt: &HostRuntime, host: u8, next: &str, buffer: &[u8]) -> Result<(), Trouble> {
-    print!(rt; "segment {host}: {next}")?;
-    say_buffer(rt, buffer)
-}
-
-/// A report's bytes, and the buffer.
-pub(super) fn reported(rt: &HostRuntime, host: u8, buffer: &[u8]) -> Result<(), Trouble> {
-    print!(rt; "report {host}: done ")?;
-    for byte in buffer.iter().take(REPORT_BYTES) {
-        print!(rt; "{byte:02x}")?;
-    }
-    say_buffer(rt, buffer)
-}
-
-pub(super) fn noticed(rt: &HostRuntime, host: u8, notice: Option<Status>) -> Result<(), Trouble> {
-    match notice {
-        Some(status) => println!(rt; "notice {host}: {status}")?,
-        None => println!(rt; "notice {host}: none")?,
-    }
-    Ok(())
-}
-
-pub(super) fn faulted(rt: &HostRuntime, host: u8, fault: Option<HostFault>) -> Result<(), Trouble> {
-    let Some(fault) = fault else {
-        println!(rt; "fault {host}: none")?;
-        return Ok(());
-    };
-    let kind = fault.fault.store.kind;
-    let block = fault.fault.store.block;
-    let unit = fault.unit;
-    let address = fault.address;
-    println!(rt; "fault {host}: {kind} block {block} unit {unit} address {address}")?;
-    Ok(())
-}
-
-pub(super) fn parameters(rt: &HostRuntime, host: u8, of: Parameters) -> Result<(), Trouble> {
-    let unit = of.unit;
-    let address = of.address;
-    let length = of.length;
-    println!(rt; "params {host}: unit {unit} address {address} length {length}")?;
-    Ok(())
-}
-
-/// What a host can hold: the device, or a unit.
+/// What a host's call came to: `segment 0: more, buffer 8192 9f5c2a0e4d7b8316`.
 #[derive(Clone, Copy)]
-enum Lock {
-    Device,
-    Unit(u8),
+pub struct HostSaid<'a> {
+    pub(super) host: u8,
+    pub(super) act: &'a HostAct,
+    pub(super) answer: Answer,
+    /// the buffer that the call lent, as it was left
+    pub(super) buffer: &'a [u8],
 }
 
-/// Whether a host holds a lock.
-fn has<S: Store>(device: &Device<S>, host: u8, lock: Lock) -> bool
-    ensures { result ≡ holds device.now.controller lock host }
-{
-    device.locks(host).is_ok_and(|locks| match lock {
-        Lock::Device => locks.device,
-        Lock::Unit(unit) => locks.has_unit(unit),
-    })
-}
-
-/// The first host that holds a lock; no two do.
-fn holder<S: Store>(device: &Device<S>, lock: Lock) -> Option<u8>
-    ensures { result ≡ first_holder device.now.controller lock }
-{
-    (0..HOSTS as u8).find(|host| has(device, *host, lock))
-}
-
-/// `locks: device none units 0=1 3=2`
-pub(super) fn locks<S: Store>(rt: &HostRuntime, device: &Device<S>) -> Result<(), Trouble> {
-    match holder(device, Lock::Device) {
-        Some(host) => print!(rt; "locks: device {host} units")?,
-        None => print!(rt; "locks: device none units")?,
+impl HostSaid<'_> {
+    /// Whether the line tells of the buffer: where the call lends one, and was made.
+    fn tells_buffer(&self) -> bool
+        ensures { result ≡ tells_buffer self.now.act.now self.now.answer }
+    {
+        self.act.lends() && !matches!(self.answer, Answer::NoTicket)
     }
-    let mut any = false;
-    for unit in 0..UNITS as u8 {
-        if let Some(host) = holder(device, Lock::Unit(unit)) {
-            print!(rt; " {unit}={host}")?;
-            any = true;
+}
+
+impl fmt::Display for HostSaid<'_> {
+    ghost output = { λ said. Some (host_said said) };
+
+    fn fmt<W: fmt::Write>(&self, f: &mut fmt::Formatter<W>) -> fmt::Result {
+        let host = self.host;
+        let act = self.act;
+        let told = Told(*self);
+        if self.tells_buffer() {
+            let lent = Lent(self.buffer);
+            write!(f, "{act} {host}: {told}{lent}")
+        } else {
+            write!(f, "{act} {host}: {told}")
         }
     }
-    if any {
-        println!(rt)?;
-    } else {
-        println!(rt; " none")?;
+}
+
+/// The words of a call's line.
+#[derive(Clone, Copy)]
+struct Told<'a>(HostSaid<'a>);
+
+impl fmt::Display for Told<'_> {
+    ghost output = { λ told. Some (told_words told.0.act.now told.0.answer told.0.buffer.now) };
+
+    fn fmt<W: fmt::Write>(&self, f: &mut fmt::Formatter<W>) -> fmt::Result {
+        let said = self.0;
+        match said.answer {
+            Answer::Refused(status) => write!(f, "refused {status}"),
+            Answer::Done => Done(said).fmt(f),
+            Answer::Execution => f.write_str(said.act.goes_on()),
+            Answer::Report => f.write_str("report"),
+            Answer::NoTicket => write!(f, "no {}ticket", said.act.wanted()),
+            Answer::Notice(status) => status.fmt(f),
+            Answer::Fault(met) => Met(met).fmt(f),
+            Answer::Parameters(of) => Values(of).fmt(f),
+            // no line of a script asks for these of a host
+            Answer::Locks(_) | Answer::Activity(_) => Ok(()),
+        }
     }
-    Ok(())
+}
+
+/// The words for a call that is done: a report's bytes, that there is no notice or no fault, or that it is done.
+#[derive(Clone, Copy)]
+struct Done<'a>(HostSaid<'a>);
+
+impl fmt::Display for Done<'_> {
+    ghost output = { λ done. Some (done_words done.0.act.now done.0.buffer.now) };
+
+    fn fmt<W: fmt::Write>(&self, f: &mut fmt::Formatter<W>) -> fmt::Result {
+        match self.0.act {
+            HostAct::Report(_) => {
+                let bytes = Hex(report_of(self.0.buffer));
+                write!(f, "done {bytes}")
+            }
+            HostAct::Notice | HostAct::Fault => f.write_str("none"),
+            _ => f.write_str("done"),
+        }
+    }
+}
+
+/// The report in the front of a buffer.
+fn report_of(buffer: &[u8]) -> &[u8]
+    ensures { result.now ≡ take 13 buffer.now }
+{
+    buffer.get(..REPORT_BYTES).unwrap_or(buffer)
+}
+
+/// Bytes, two hexadecimal digits each.
+#[derive(Clone, Copy)]
+struct Hex<'a>(&'a [u8]);
+
+impl fmt::Display for Hex<'_> {
+    ghost output = { λ hex. Some (hex_text hex.0.now) };
+
+    fn fmt<W: fmt::Write>(&self, f: &mut fmt::Formatter<W>) -> fmt::Result {
+        for byte in self.0 {
+            write!(f, "{byte:02x}")?;
+        }
+        Ok(())
+    }
+}
+
+/// What a line ends with whose call lent a buffer: how many bytes that has, and their hash.
+#[derive(Clone, Copy)]
+struct Lent<'a>(&'a [u8]);
+
+impl fmt::Display for Lent<'_> {
+    ghost output = { λ lent. Some (lent_words lent.0.now) };
+
+    fn fmt<W: fmt::Write>(&self, f: &mut fmt::Formatter<W>) -> fmt::Result {
+        let size = self.0.len();
+        let sum = Sum::of(self.0);
+        write!(f, ", buffer {size} {sum}")
+    }
+}
+
+/// A host's fault: `damaged block 12 unit 0 address 12`.
+#[derive(Clone, Copy)]
+struct Met(HostFault);
+
+impl fmt::Display for Met {
+    ghost output = { λ met. Some (met_words met.0) };
+
+    fn fmt<W: fmt::Write>(&self, f: &mut fmt::Formatter<W>) -> fmt::Result {
+        let kind = self.0.fault.store.kind;
+        let block = self.0.fault.store.block;
+        let unit = self.0.unit;
+        let address = self.0.address;
+        write!(f, "{kind} block {block} unit {unit} address {address}")
+    }
+}
+
+/// A host's parameters: `unit 0 address 28 length 4294967295`.
+#[derive(Clone, Copy)]
+struct Values(Parameters);
+
+impl fmt::Display for Values {
+    ghost output = { λ values. Some (parameters_words values.0) };
+
+    fn fmt<W: fmt::Write>(&self, f: &mut fmt::Formatter<W>) -> fmt::Result {
+        let Parameters {
+            unit,
+            address,
+            length,
+        } = self.0;
+        write!(f, "unit {unit} address {address} length {length}")
+    }
+}
+
+impl HostAct {
+    /// The word for an execution ticket that it is answered with.
+    fn goes_on(&self) -> &'static str
+        ensures { result.now ≡ goes_on self.now }
+    {
+        match self {
+            HostAct::Segment(_) => "more",
+            _ => "execution",
+        }
+    }
+
+    /// The kind of ticket that it takes, where it takes one of a kind.
+    fn wanted(&self) -> &'static str
+        ensures { result.now ≡ wanted self.now }
+    {
+        match self {
+            HostAct::Segment(_) => "execution ",
+            HostAct::Report(_) => "report ",
+            _ => "",
+        }
+    }
+
+    /// Whether it lends a buffer.
+    fn lends(&self) -> bool
+        ensures { result ≡ lends self.now }
+    {
+        matches!(self, HostAct::Segment(_) | HostAct::Report(_))
+    }
 }
 
 /// What a call prints for which there is no device, or no store.

@@ -1,17 +1,20 @@
-ghost use Rattle.std.specs.Prelude.{◌≡◌};
-ghost use Rattle.device.specs.Calls as calls;
-ghost use Rattle.device.specs.Device.{state, after};
+ghost use Rattle.std.specs.Prelude.{◌≡◌, IfOk, OnOk, vec_items};
+ghost use Rattle.desk.specs.Worlds.{at_end, at_start, comes_to, world};
+ghost use Rattle.cuwajimo.specs.Sessions.{act_left, all_left, host_left, host_made, lent, Serves};
+ghost use Rattle.cuwajimo.specs.declared.session.Outcome.TheVariants.{Served, Refused};
 
 use super::buffer::buffer;
-use super::call::{Act, Call, Filling, HostAct};
-use super::case::{Case, CaseRun};
-use super::say;
+use super::call::{Act, Call, HostAct};
+use super::case::CaseRun;
+use super::holders::Holders;
+use super::say::{HostSaid, nothing};
 use super::trouble::Trouble;
-use desk::desk::Desk;
-use device::device::{Device, power_on};
-use device::ticket::{Returned, Ticket};
+use desk::answer::Answer;
+use desk::session::Session;
+use device::device::power_on;
 use flex::status::Status;
 use flex::unit_map::UnitMap;
+use std::alloc::Global;
 use store::store::Store;
 
 /// Whether there was a device.
@@ -21,221 +24,120 @@ pub enum Outcome {
     Refused,
 }
 
-/// The store that a session had, and what came of it.
+/// The store that a case was served over, and what came of it.
 pub struct Ended<S> {
     pub store: S,
     pub outcome: Result<Outcome, Trouble>,
 }
 
-/// A device that is on, and the tickets of its hosts.
-struct Session<'a, S> {
-    rt: &'a HostRuntime,
-    device: Device<S>,
-    desk: Desk,
+impl HostAct {
+    /// The buffer that it lends; the other calls lend an empty one.
+    fn buffer(&self, heap: Global) -> Result<Vec<u8>, Trouble>
+        ensures { IfOk result (λ v. vec_items v ≡ lent self.now) }
+    {
+        match self {
+            HostAct::Segment(filling) | HostAct::Report(filling) => buffer(heap, filling),
+            _ => Ok(Vec::new(heap)),
+        }
+    }
 }
 
-impl<S: Store> Session<'_, S> {
-    fn command(&mut self, host: u8, bytes: &[u8]) -> Result<(), Trouble> {
-        match self.device.command(host, bytes) {
-            Ok(ticket) => {
-                let phase = say::opened(&ticket);
-                self.desk.put(&mut self.device, host, ticket);
-                println!(self.rt; "command {host}: {phase}")?;
-                Ok(())
-            }
-            Err(status) => say::refused(self.rt, "command", host, status),
-        }
-    }
-
-    fn segment(&mut self, host: u8, filling: &Filling) -> Result<(), Trouble> {
-        let mut buffer = buffer(self.rt.alloc(), filling)?;
-        match self.desk.take(host) {
-            Some(Ticket::Execution(ticket)) => {
-                match self.device.segment(ticket, buffer.as_mut_slice()) {
-                    Ok(ticket) => {
-                        let next = say::follows(&ticket);
-                        self.desk.put(&mut self.device, host, ticket);
-                        say::moved(self.rt, host, next, buffer.as_slice())
-                    }
-                    Err(Returned { status, ticket }) => {
-                        self.desk
-                            .put(&mut self.device, host, Ticket::Execution(ticket));
-                        say::refused_buffer(self.rt, "segment", host, status, buffer.as_slice())
-                    }
-                }
-            }
-            other => self.keep(host, other, "segment", "execution"),
-        }
-    }
-
-    // One text with `segment` would be no plainer: the ticket that it takes, the call and what comes back all differ.
-    fn report(&mut self, host: u8, filling: &Filling) -> Result<(), Trouble> {
-        let mut buffer = buffer(self.rt.alloc(), filling)?;
-        match self.desk.take(host) {
-            Some(Ticket::Report(ticket)) => {
-                match self.device.report(ticket, buffer.as_mut_slice()) {
-                    Ok(()) => say::reported(self.rt, host, buffer.as_slice()),
-                    Err(Returned { status, ticket }) => {
-                        self.desk
-                            .put(&mut self.device, host, Ticket::Report(ticket));
-                        say::refused_buffer(self.rt, "report", host, status, buffer.as_slice())
-                    }
-                }
-            }
-            other => self.keep(host, other, "report", "report"),
-        }
-    }
-
-    /// Keeps what a host has in place of the ticket that a call needs.
-    fn keep(
-        &mut self,
-        host: u8,
-        ticket: Option<Ticket>,
-        name: &str,
-        kind: &str,
-    ) -> Result<(), Trouble> {
-        if let Some(ticket) = ticket {
-            self.desk.put(&mut self.device, host, ticket);
-        }
-        println!(self.rt; "{name} {host}: no {kind} ticket")?;
-        Ok(())
-    }
-
-    fn cancel(&mut self, host: u8) -> Result<(), Trouble> {
-        let Some(ticket) = self.desk.take(host) else {
-            println!(self.rt; "cancel {host}: no ticket")?;
-            return Ok(());
-        };
-        match self.device.cancel(ticket) {
-            Ok(()) => {
-                println!(self.rt; "cancel {host}: done")?;
-                Ok(())
-            }
-            Err(Returned { status, ticket }) => {
-                self.desk.put(&mut self.device, host, ticket);
-                say::refused(self.rt, "cancel", host, status)
-            }
-        }
-    }
-
-    fn clear(&mut self, host: u8) -> Result<(), Trouble>
-        ensures device { state S.Store.blocks self.new.device ≡ (after (state S.Store.blocks self.old.device) (calls.clear host)).1 }
-        ensures desk { self.new.desk ≡ self.old.desk }
-    {
-        match self.device.clear(host) {
-            Ok(()) => {
-                println!(self.rt; "clear {host}: done")?;
-                Ok(())
-            }
-            Err(status) => say::refused(self.rt, "clear", host, status),
-        }
-    }
-
-    fn notice(&mut self, host: u8) -> Result<(), Trouble>
-        ensures device { state S.Store.blocks self.new.device ≡ (after (state S.Store.blocks self.old.device) (calls.notice host)).1 }
-        ensures desk { self.new.desk ≡ self.old.desk }
-    {
-        match self.device.notice(host) {
-            Ok(notice) => say::noticed(self.rt, host, notice),
-            Err(status) => say::refused(self.rt, "notice", host, status),
-        }
-    }
-
-    fn fault(&mut self, host: u8) -> Result<(), Trouble>
-        ensures device { state S.Store.blocks self.new.device ≡ (after (state S.Store.blocks self.old.device) (calls.fault host)).1 }
-        ensures desk { self.new.desk ≡ self.old.desk }
-    {
-        match self.device.fault(host) {
-            Ok(fault) => say::faulted(self.rt, host, fault),
-            Err(status) => say::refused(self.rt, "fault", host, status),
-        }
-    }
-
-    fn params(&self, host: u8) -> Result<(), Trouble> {
-        match self.device.parameters(host) {
-            Ok(of) => say::parameters(self.rt, host, of),
-            Err(status) => say::refused(self.rt, "params", host, status),
-        }
-    }
-
-    /// One call of a host.
-    fn answer_host(&mut self, host: u8, act: &HostAct) -> Result<(), Trouble> {
-        match act {
-            HostAct::Command(bytes) => self.command(host, bytes.as_slice()),
-            HostAct::Segment(filling) => self.segment(host, filling),
-            HostAct::Report(filling) => self.report(host, filling),
-            HostAct::Cancel => self.cancel(host),
-            HostAct::Clear => self.clear(host),
-            HostAct::Notice => self.notice(host),
-            HostAct::Fault => self.fault(host),
-            HostAct::Params => self.params(host),
-        }
-    }
-
-    /// One call while the device is on.
-    fn answer(&mut self, act: &Act) -> Result<(), Trouble> {
-        match act {
-            Act::Host { host, act } => self.answer_host(*host, act),
-            Act::Locks => say::locks(self.rt, &self.device),
-            Act::Activity => {
-                println!(self.rt; "activity: {}", self.device.activity())?;
-                Ok(())
-            }
-            _ => say::nothing(self.rt, act),
-        }
-    }
-
-    /// Each call before `off`.
-    fn answer_all(&mut self, calls: &[Call]) -> Result<Outcome, Trouble> {
-        for call in calls {
-            self.answer(&call.act)?;
-        }
-        Ok(Outcome::Served)
-    }
-
-    /// The device's own line, and then each call before `off`.
-    fn run(&mut self, case: &Case) -> Result<Outcome, Trouble> {
-        let number = case.plan.device;
-        let units = case.plan.units.len();
-        let blocks = self.device.size();
-        println!(self.rt; "device {number}: {units} units, {blocks} blocks")?;
-        self.answer_all(case.on.as_slice())
-    }
-
-    /// Ends the tickets that are open, and powers the device off.
-    fn close(self) -> S {
-        let Session {
-            rt: _,
-            mut device,
-            desk,
-        } = self;
-        desk.close(&mut device);
-        device.power_off()
+/// Makes a host's call, and tells what it answers. The buffer is the one that the call lends.
+fn make<S: Store>(session: &mut Session<S>, host: u8, act: &HostAct, buffer: &mut [u8]) -> Answer
+    ensures { comes_to result buffer.new (world S.Store.blocks session.new) ≡ host_made (world S.Store.blocks session.old) host act.now buffer.old }
+{
+    match act {
+        HostAct::Command(bytes) => session.command(host, bytes.as_slice()),
+        HostAct::Segment(_) => session.segment(host, buffer),
+        HostAct::Report(_) => session.report(host, buffer),
+        HostAct::Cancel => session.cancel(host),
+        HostAct::Clear => session.clear(host),
+        HostAct::Notice => session.notice(host),
+        HostAct::Fault => session.fault(host),
+        HostAct::Params => session.parameters(host),
     }
 }
 
 impl CaseRun<'_> {
-    /// Powers the device on over the store, answers the calls, and powers it off.
-    fn serve_on<S: Store>(self, map: UnitMap, store: S) -> Ended<S> {
-        let mut session = Session {
-            rt: self.rt,
-            device: power_on(self.case.plan.device, map, store),
-            desk: Desk::new(),
+    /// One call of a host.
+    fn answer_host<S: Store>(
+        self,
+        session: &mut Session<S>,
+        host: u8,
+        act: &HostAct,
+    ) -> Result<(), Trouble>
+        ensures { OnOk result (world S.Store.blocks session.new ≡ host_left (world S.Store.blocks session.old) host act.now) }
+    {
+        let mut buffer = act.buffer(self.rt.alloc())?;
+        let answer = make(session, host, act, buffer.as_mut_slice());
+        let buffer = buffer.as_slice();
+        let said = HostSaid {
+            host,
+            act,
+            answer,
+            buffer,
         };
-        let outcome = session.run(self.case);
+        println!(self.rt; "{said}")?;
+        Ok(())
+    }
+
+    /// One call while the device is on.
+    fn answer<S: Store>(self, session: &mut Session<S>, act: &Act) -> Result<(), Trouble>
+        ensures { OnOk result (world S.Store.blocks session.new ≡ act_left (world S.Store.blocks session.old) act.now) }
+    {
+        match act {
+            Act::Host { host, act } => self.answer_host(session, *host, act),
+            Act::Locks => {
+                println!(self.rt; "{}", Holders::of(session))?;
+                Ok(())
+            }
+            Act::Activity => {
+                println!(self.rt; "activity: {}", session.activity())?;
+                Ok(())
+            }
+            _ => nothing(self.rt, act),
+        }
+    }
+
+    /// The device's own line, and then each call before `off`.
+    fn answer_all<S: Store>(self, session: &mut Session<S>) -> Result<Outcome, Trouble>
+        ensures outcome { IfOk result (λ outcome. outcome ≡ Served) }
+        ensures left { OnOk result (world S.Store.blocks session.new ≡ all_left (world S.Store.blocks session.old) (vec_items self.entry.case.now.on)) }
+    {
+        let number = self.case.plan.device;
+        let units = self.case.plan.units.len();
+        let blocks = session.size();
+        println!(self.rt; "device {number}: {units} units, {blocks} blocks")?;
+        for call in self.case.on.iter() {
+            self.answer(session, &call.act)?;
+        }
+        Ok(Outcome::Served)
+    }
+
+    /// Powers the device on over the store, answers the calls, and powers it off.
+    fn serve_on<S: Store>(self, map: UnitMap, store: S) -> Ended<S>
+        ensures outcome { IfOk result.outcome (λ outcome. outcome ≡ Served) }
+        ensures left { OnOk result.outcome (S.Store.blocks result.store ≡ (at_end (all_left (at_start self.entry.case.now.plan.device map (S.Store.blocks store)) (vec_items self.entry.case.now.on))).blocks) }
+    {
+        let mut session = Session::new(power_on(self.case.plan.device, map, store));
+        let outcome = self.answer_all(&mut session);
         Ended {
-            store: session.close(),
+            store: session.power_off(),
             outcome,
         }
     }
 
-    fn refuse(self, status: Status) -> Result<Outcome, Trouble> {
+    fn refuse(self, status: Status) -> Result<Outcome, Trouble>
+        ensures { IfOk result (λ outcome. outcome ≡ Refused) }
+    {
         println!(self.rt; "map: refused {status}")?;
         Ok(Outcome::Refused)
     }
 
     /// The case's calls before `off`, on a device over the store if its units make a map.
-    pub(super) fn serve<S: Store>(self, store: S) -> Ended<S> {
+    pub(super) fn serve<S: Store>(self, store: S) -> Ended<S>
+        ensures { IfOk result.outcome (λ outcome. Serves self.entry.case.now (S.Store.blocks store) outcome (S.Store.blocks result.store)) }
+    {
         let plan = &self.case.plan;
         match UnitMap::new(plan.units.as_slice(), plan.end) {
             Ok(map) => self.serve_on(map, store),

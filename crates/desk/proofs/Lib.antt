@@ -1,1 +1,2 @@
 mod Tickets
+mod Keeping

@@ -1,4 +1,6 @@
-//! The tickets of the eight hosts, kept by whoever makes their calls.
+//! The tickets of the eight hosts, and a device whose hosts' calls are made with them.
 #![tactic(auto)]
 
+pub mod answer;
 pub mod desk;
+pub mod session;

@@ -4,13 +4,13 @@ use Rattle.std.proofs.Math.Seq.{drop-append_seam, take-append_seam}
 use borrow.Rule.Slice.PartMut.{put_mid, mid_of}
 use Rattle.std.proofs.lemmas.Bool.{eqb-true, leb-true}
 use Rattle.std.proofs.lemmas.List.{append-nil, drop_all, length-take-le, take_all, take-append-drop}
-use Rattle.trace.specs.declared.answer.Answer.{Answer}
-use Rattle.trace.specs.declared.answer.Answer.TheVariants as answers
+use Rattle.desk.specs.declared.answer.Answer.{Answer}
+use Rattle.desk.specs.declared.answer.Answer.TheVariants as answers
 use Rattle.trace.specs.declared.ending.How.{How}
 use Rattle.trace.specs.declared.ending.How.TheVariants as hows
 use Rattle.trace.specs.Answers.{answer_bytes}
 use Rattle.trace.specs.Entries.{Entry, entry_in}
-use Rattle.trace.specs.Worlds.{World}
+use Rattle.desk.specs.Worlds.{World}
 use Rattle.trace.specs.Courses.{Reading, reading, room_for, has_room, made_in, written_in, Course, ended_so, after_entry, played, course}
 use Rattle.trace.proofs.Readings.{nothing_read, none_read, entry_read}
 

@@ -1,6 +1,5 @@
 mod Bits
 mod Headings
-mod Keeping
 mod Rooms
 mod Readings
 mod Coursing

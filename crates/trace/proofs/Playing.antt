@@ -10,14 +10,14 @@ use Rattle.trace.specs.declared.ending.How.{How}
 use Rattle.trace.specs.declared.ending.How.TheVariants as hows
 use Rattle.trace.specs.Heads.{Heading}
 use Rattle.trace.specs.Courses.{Course, course, runs_to}
-use Rattle.trace.specs.Worlds.{World, at_end}
-use Rattle.trace.specs.Plays.{Outcome, tells, at_start, used, over, outcome, Plays, PlaysAll, Told}
+use Rattle.desk.specs.Worlds.{World, at_start, at_end}
+use Rattle.trace.specs.Plays.{Outcome, tells, used, over, outcome, Plays, PlaysAll, Told}
 
--- The player at power on.
+-- The session at power on.
 pub started :
-    (player : World) (s : State) (number d : ℕ) (map : UnitMap) (blocks : List Block) → player ≡ record { state = s; desk = empty_desk } → s ≡ power_on d map blocks
-    → d ≡ number → player ≡ at_start number map blocks
-started player s number d map blocks is on same =
+    (session : World) (s : State) (number d : ℕ) (map : UnitMap) (blocks : List Block) → session ≡ record { state = s; desk = empty_desk } → s ≡ power_on d map blocks
+    → d ≡ number → session ≡ at_start number map blocks
+started session s number d map blocks is on same =
     is ∙ ap (λ (x : State). let w : World = record { state = x; desk = empty_desk } in w) on ∙ ap (λ (n : ℕ). at_start n map blocks) same
 
 pub played_over :

@@ -4,10 +4,11 @@ use Rattle.std.proofs.Math.Seq.{drop-append_seam}
 use Rattle.std.proofs.lemmas.Bool.{le-leb}
 use Rattle.std.proofs.lemmas.List.{drop-drop, length-take-le}
 use borrow.Rule.Slice.PartMut.{put_mid, mid_of}
-use Rattle.trace.specs.declared.answer.Answer.{Answer}
+use Rattle.desk.specs.declared.answer.Answer.{Answer}
 use Rattle.trace.specs.Answers.{answer_bytes}
 use Rattle.trace.specs.Entries.{Entry, buffer_size}
-use Rattle.trace.specs.Worlds.{World, Made, made, comes_to}
+use Rattle.desk.specs.Worlds.{World, Made, comes_to}
+use Rattle.trace.specs.Makings.{made}
 use Rattle.trace.specs.Courses.{room_for, has_room, made_in, written_in}
 
 seam : (n : ℕ) (xs ys : List ℕ) → length xs ≡ n → drop n (xs ++ ys) ≡ ys

@@ -1,4 +1,4 @@
--- The answers to the calls of a trace, and their bytes.
+-- The bytes of the answers to the calls of a trace.
 use Rattle.std.specs.Prelude.{ℕ, ◌+◌, ◌-◌, ◌*◌, Bool, List, [], ◌∷◌, ◌++◌, length, replicate, if◌then◌else◌}
 use Rattle.std.specs.Int.{w16, w32, w64, to_be_bytes}
 use Rattle.store.specs.declared.fault.FaultKind.{FaultKind}
@@ -8,15 +8,8 @@ use Rattle.flex.specs.Statuses.{numbers_of}
 use Rattle.message.specs.declared.parameters.Parameters.{Parameters}
 use Rattle.host.specs.declared.fault.HostFault.{HostFault}
 use Rattle.host.specs.declared.locks.Locks.{Locks}
-use Rattle.device.specs.declared.ticket.Ticket.{Ticket}
-use Rattle.device.specs.declared.ticket.Ticket.TheVariants as tickets
-use Rattle.trace.specs.declared.answer.Answer.{Answer}
-use Rattle.trace.specs.declared.answer.Answer.TheVariants as answers
-
--- The host now has this ticket.
-abbrev pub handed : Ticket → Answer
-handed (tickets.Execution k) = answers.Execution
-handed (tickets.Report k) = answers.Report
+use Rattle.desk.specs.declared.answer.Answer.{Answer}
+use Rattle.desk.specs.declared.answer.Answer.TheVariants as answers
 
 -- Sixteen bytes: those that tell something, and zeros.
 abbrev pub filled : List ℕ → List ℕ

@@ -5,7 +5,8 @@ use Rattle.trace.specs.declared.ending.How.{How}
 use Rattle.trace.specs.declared.ending.How.TheVariants as hows
 use Rattle.trace.specs.Answers.{answer_bytes}
 use Rattle.trace.specs.Entries.{Entry, entry_in, buffer_size}
-use Rattle.trace.specs.Worlds.{World, Made, made}
+use Rattle.desk.specs.Worlds.{World, Made}
+use Rattle.trace.specs.Makings.{made}
 
 -- ---- Reading: the entries up to the end, or up to one that is not whole or of no kind.
 

@@ -4,5 +4,5 @@ pub mod Endings
 pub mod Entries
 pub mod Heads
 pub mod Reading
-pub mod Worlds
+pub mod Makings
 pub mod Plays

@@ -5,14 +5,12 @@ use Rattle.image.specs.declared.refusal.Refusal.{Refusal}
 use Rattle.flex.specs.declared.status.Status.{Status}
 use Rattle.flex.specs.declared.unit_map.UnitMap.{UnitMap}
 use Rattle.flex.specs.Maps.{Makes}
-use Rattle.device.specs.Device.{power_on}
-use Rattle.desk.specs.Desks.{empty_desk}
 use Rattle.trace.specs.declared.ending.Ending.{Ending}
 use Rattle.trace.specs.declared.ending.How.{How}
 use Rattle.trace.specs.declared.ending.How.TheVariants as hows
 use Rattle.trace.specs.Courses.{Course, course}
 use Rattle.trace.specs.Heads.{Heading}
-use Rattle.trace.specs.Worlds.{World, at_end}
+use Rattle.desk.specs.Worlds.{at_start, at_end}
 
 -- The blocks that the store means afterwards, the output as it is left, how many bytes of it were written, and how it ended.
 pub record Outcome : Type 0 where
@@ -24,10 +22,6 @@ pub record Outcome : Type 0 where
 -- What the code hands over of one.
 abbrev pub tells : List Block → List ℕ → Ending → Outcome
 tells blocks output ending = record { blocks = blocks; output = output; written = ending.written; how = ending.how }
-
--- A device at power on, whose hosts hold no ticket.
-abbrev pub at_start : ℕ → UnitMap → List Block → World
-at_start number map blocks = record { state = power_on number map blocks; desk = empty_desk }
 
 -- Of an output the first 2 ^ 56 - 1 bytes are used, or all of fewer.
 abbrev pub used : List ℕ → ℕ

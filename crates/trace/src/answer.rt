@@ -1,8 +1,8 @@
 ghost use Rattle.std.specs.Prelude.{◌≡◌, [], ◌∷◌};
 ghost use Rattle.std.specs.Int.{w64, to_be_bytes};
-ghost use Rattle.trace.specs.Answers.{answer_bytes, fault_bytes, filled, handed, kind_number, locks_bytes, parameters_bytes, status_bytes, unit_bits};
+ghost use Rattle.trace.specs.Answers.{answer_bytes, fault_bytes, filled, kind_number, locks_bytes, parameters_bytes, status_bytes, unit_bits};
 
-use device::ticket::Ticket;
+use desk::answer::Answer;
 use flex::status::Status;
 use host::fault::HostFault;
 use host::locks::Locks;
@@ -12,52 +12,22 @@ use store::fault::FaultKind;
 /// How many bytes an answer has.
 pub const ANSWER_BYTES: usize = 16;
 
-/// What a call of a trace answers.
-#[derive(Clone, Copy)]
-pub enum Answer {
-    Refused(Status),
-    Done,
-    /// the host now has an execution ticket
-    Execution,
-    /// the host now has a report ticket
-    Report,
-    /// the host has no ticket of the kind that the call takes
-    NoTicket,
-    Notice(Status),
-    Fault(HostFault),
-    Parameters(Parameters),
-    Locks(Locks),
-    Activity(u64),
-}
-
-impl Answer {
-    /// The host now has this ticket.
-    pub(super) fn handed(ticket: &Ticket) -> Answer
-        ensures { result ≡ handed ticket.now }
-    {
-        match ticket {
-            Ticket::Execution(_) => Answer::Execution,
-            Ticket::Report(_) => Answer::Report,
-        }
-    }
-
-    /// Its bytes: the number of what it is, then what it tells, then zeros.
-    #[tactic(auto, unfolding(crate::specs::Answers::answer_bytes))]
-    pub fn bytes(&self) -> [u8; ANSWER_BYTES]
-        ensures { result ≡ answer_bytes self.now }
-    {
-        match self {
-            Answer::Refused(status) => status_bytes(0, *status),
-            Answer::Done => bare_bytes(1),
-            Answer::Execution => bare_bytes(2),
-            Answer::Report => bare_bytes(3),
-            Answer::NoTicket => bare_bytes(4),
-            Answer::Notice(status) => status_bytes(5, *status),
-            Answer::Fault(fault) => fault_bytes(*fault),
-            Answer::Parameters(parameters) => parameters_bytes(*parameters),
-            Answer::Locks(locks) => locks_bytes(locks),
-            Answer::Activity(count) => activity_bytes(*count),
-        }
+/// An answer's bytes: the number of what it is, then what it tells, then zeros.
+#[tactic(auto, unfolding(crate::specs::Answers::answer_bytes))]
+pub fn answer_bytes(answer: &Answer) -> [u8; ANSWER_BYTES]
+    ensures { result ≡ answer_bytes answer.now }
+{
+    match answer {
+        Answer::Refused(status) => status_bytes(0, *status),
+        Answer::Done => bare_bytes(1),
+        Answer::Execution => bare_bytes(2),
+        Answer::Report => bare_bytes(3),
+        Answer::NoTicket => bare_bytes(4),
+        Answer::Notice(status) => status_bytes(5, *status),
+        Answer::Fault(fault) => fault_bytes(*fault),
+        Answer::Parameters(parameters) => parameters_bytes(*parameters),
+        Answer::Locks(locks) => locks_bytes(locks),
+        Answer::Activity(count) => activity_bytes(*count),
     }
 }
 

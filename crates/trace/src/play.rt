@@ -4,7 +4,8 @@ ghost use Rattle.trace.specs.Plays.{Plays, tells};
 
 use super::ending::{Ending, How, MOST_WRITTEN};
 use super::head::Head;
-use super::player::Player;
+use super::player::run;
+use desk::session::Session;
 use device::device::power_on;
 use store::store::Store;
 
@@ -26,10 +27,10 @@ pub fn play<S: Store>(store: S, head: Head<'_>, calls: &[u8], output: &mut [u8])
         };
     };
     let room = output.len().min(MOST_WRITTEN);
-    let mut player = Player::new(power_on(head.device(), map, store));
-    let ending = player.run(calls, &mut output[..room]);
+    let mut session = Session::new(power_on(head.device(), map, store));
+    let ending = run(&mut session, calls, &mut output[..room]);
     Played {
-        store: player.power_off(),
+        store: session.power_off(),
         ending,
     }
 }

@@ -1,0 +1,23 @@
+use Rattle.std.proofs.Common.{Some, None}
+use Rattle.device.specs.Calls as calls
+use Rattle.device.specs.Device.{state}
+use Rattle.desk.specs.Worlds.{world}
+use Rattle.desk.proofs.Keeping.{called_so}
+use Rattle.desk.proofs.session.Session.notice.Goals as goal
+
+pub returns-in-Ok-Some : goal.returns-in-Ok-Some
+returns-in-Ok-Some g c =
+    let blocks = g.S.Store.blocks in
+    called_so (world blocks c.args.self.now) c.args.host (calls.notice c.args.host) (calls.noticed (Some c.in-Ok-Some.status)) (state blocks c.notice.new.self)
+    (rw c.in-Ok-Some.field-0-is at c.in-Ok-Some.ensures)
+
+pub returns-in-Ok-None : goal.returns-in-Ok-None
+returns-in-Ok-None g c =
+    let blocks = g.S.Store.blocks in
+    called_so (world blocks c.args.self.now) c.args.host (calls.notice c.args.host) (calls.noticed None) (state blocks c.notice.new.self)
+    (rw c.in-Ok-None.field-0-is at c.in-Ok-None.ensures)
+
+pub returns-in-Err : goal.returns-in-Err
+returns-in-Err g c =
+    let blocks = g.S.Store.blocks in
+    called_so (world blocks c.args.self.now) c.args.host (calls.notice c.args.host) (calls.refusal c.in-Err.status) (state blocks c.notice.new.self) c.in-Err.ensures

@@ -1,0 +1,188 @@
+ghost use Rattle.std.specs.Prelude.{◌≡◌, length};
+ghost use Rattle.device.specs.Calls as calls;
+ghost use Rattle.device.specs.Device.{locks_of, parameters_of, state};
+ghost use Rattle.desk.specs.Answers.{handed};
+ghost use Rattle.desk.specs.Desks.{empty_desk, held};
+ghost use Rattle.desk.specs.Worlds.{at_end, by_call, by_cancel, by_report, by_segment, comes_to, locks_told, parameters_told, with_ticket, world};
+
+use super::answer::Answer;
+use super::desk::Desk;
+use device::device::Device;
+use device::ticket::{Returned, Ticket};
+use store::store::Store;
+
+/// A device that is on, and the tickets that its hosts hold. It is not `Drop`: `power_off` ends both.
+pub struct Session<S> {
+    device: Device<S>,
+    desk: Desk,
+}
+
+impl<S: Store> Session<S> {
+    /// A device whose hosts hold no ticket.
+    pub fn new(device: Device<S>) -> Session<S>
+        ensures { world S.Store.blocks result ≡ record { state = state S.Store.blocks device; desk = empty_desk } }
+    {
+        Session {
+            device,
+            desk: Desk::new(),
+        }
+    }
+
+    /// Cancels the tickets that are still open, powers the device off, and hands back its store.
+    pub fn power_off(self) -> S
+        ensures same { S.Store.blocks result ≡ (at_end (world S.Store.blocks self)).blocks }
+        ensures settled { S.Store.settled result }
+        ensures holds { S.Store.stored result ≡ (at_end (world S.Store.blocks self)).blocks }
+    {
+        let Session { mut device, desk } = self;
+        desk.close(&mut device);
+        device.power_off()
+    }
+
+    /// Keeps a ticket for a host, and tells of which kind it is.
+    fn hand(&mut self, host: u8, ticket: Ticket) -> Answer
+        ensures answer { result ≡ handed ticket }
+        ensures after { world S.Store.blocks self.new ≡ with_ticket (world S.Store.blocks self.old) host ticket }
+    {
+        let answer = Answer::handed(&ticket);
+        self.desk.put(&mut self.device, host, ticket);
+        answer
+    }
+
+    /// Keeps a ticket that is not of the kind that a call takes.
+    fn keep(&mut self, host: u8, ticket: Ticket) -> Answer
+        ensures answer { result ≡ Answer.NoTicket }
+        ensures after { world S.Store.blocks self.new ≡ with_ticket (world S.Store.blocks self.old) host ticket }
+    {
+        self.desk.put(&mut self.device, host, ticket);
+        Answer::NoTicket
+    }
+
+    /// Sends a host's command message. A ticket that it is given is kept for it.
+    pub fn command(&mut self, host: u8, message: &[u8]) -> Answer
+        ensures { (result, world S.Store.blocks self.new) ≡ by_call (world S.Store.blocks self.old) host (calls.command host message.now) }
+    {
+        match self.device.command(host, message) {
+            Ok(ticket) => self.hand(host, ticket),
+            Err(status) => Answer::Refused(status),
+        }
+    }
+
+    /// Moves the next segment with the execution ticket that a host has. The ticket that comes back is kept for it.
+    pub fn segment(&mut self, host: u8, buffer: &mut [u8]) -> Answer
+        ensures { comes_to result buffer.new (world S.Store.blocks self.new) ≡ by_segment (world S.Store.blocks self.old) host (held self.old.desk host) buffer.old }
+    {
+        match self.desk.take(host) {
+            Some(Ticket::Execution(ticket)) => match self.device.segment(ticket, buffer) {
+                Ok(ticket) => self.hand(host, ticket),
+                Err(Returned { status, ticket }) => {
+                    self.desk
+                        .put(&mut self.device, host, Ticket::Execution(ticket));
+                    Answer::Refused(status)
+                }
+            },
+            Some(Ticket::Report(ticket)) => self.keep(host, Ticket::Report(ticket)),
+            None => Answer::NoTicket,
+        }
+    }
+
+    /// Asks for the report with the report ticket that a host has.
+    pub fn report(&mut self, host: u8, buffer: &mut [u8]) -> Answer
+        ensures { comes_to result buffer.new (world S.Store.blocks self.new) ≡ by_report (world S.Store.blocks self.old) host (held self.old.desk host) buffer.old }
+    {
+        match self.desk.take(host) {
+            Some(Ticket::Report(ticket)) => match self.device.report(ticket, buffer) {
+                Ok(()) => Answer::Done,
+                Err(Returned { status, ticket }) => {
+                    self.desk
+                        .put(&mut self.device, host, Ticket::Report(ticket));
+                    Answer::Refused(status)
+                }
+            },
+            Some(Ticket::Execution(ticket)) => self.keep(host, Ticket::Execution(ticket)),
+            None => Answer::NoTicket,
+        }
+    }
+
+    /// Gives back the ticket that a host has.
+    pub fn cancel(&mut self, host: u8) -> Answer
+        ensures { (result, world S.Store.blocks self.new) ≡ by_cancel (world S.Store.blocks self.old) host (held self.old.desk host) }
+    {
+        let Some(ticket) = self.desk.take(host) else {
+            return Answer::NoTicket;
+        };
+        match self.device.cancel(ticket) {
+            Ok(()) => Answer::Done,
+            Err(Returned { status, ticket }) => {
+                self.desk.put(&mut self.device, host, ticket);
+                Answer::Refused(status)
+            }
+        }
+    }
+
+    /// Clears a host.
+    pub fn clear(&mut self, host: u8) -> Answer
+        ensures { (result, world S.Store.blocks self.new) ≡ by_call (world S.Store.blocks self.old) host (calls.clear host) }
+    {
+        match self.device.clear(host) {
+            Ok(()) => Answer::Done,
+            Err(status) => Answer::Refused(status),
+        }
+    }
+
+    /// Takes a host's notice; without one the answer is `Done`.
+    pub fn notice(&mut self, host: u8) -> Answer
+        ensures { (result, world S.Store.blocks self.new) ≡ by_call (world S.Store.blocks self.old) host (calls.notice host) }
+    {
+        match self.device.notice(host) {
+            Ok(Some(status)) => Answer::Notice(status),
+            Ok(None) => Answer::Done,
+            Err(status) => Answer::Refused(status),
+        }
+    }
+
+    /// Looks at a host's fault; without one the answer is `Done`.
+    pub fn fault(&mut self, host: u8) -> Answer
+        ensures { (result, world S.Store.blocks self.new) ≡ by_call (world S.Store.blocks self.old) host (calls.fault host) }
+    {
+        match self.device.fault(host) {
+            Ok(Some(fault)) => Answer::Fault(fault),
+            Ok(None) => Answer::Done,
+            Err(status) => Answer::Refused(status),
+        }
+    }
+
+    /// Looks at a host's parameters.
+    pub fn parameters(&self, host: u8) -> Answer
+        ensures { result ≡ parameters_told (parameters_of self.now.device.controller host) }
+    {
+        match self.device.parameters(host) {
+            Ok(parameters) => Answer::Parameters(parameters),
+            Err(status) => Answer::Refused(status),
+        }
+    }
+
+    /// Looks at a host's locks.
+    pub fn locks(&self, host: u8) -> Answer
+        ensures { result ≡ locks_told (locks_of self.now.device.controller host) }
+    {
+        match self.device.locks(host) {
+            Ok(locks) => Answer::Locks(locks),
+            Err(status) => Answer::Refused(status),
+        }
+    }
+
+    /// How many blocks segments have asked for since power on.
+    pub fn activity(&self) -> u64
+        ensures { result ≡ (world S.Store.blocks self.now).state.activity }
+    {
+        self.device.activity()
+    }
+
+    /// How many blocks the device has.
+    pub fn size(&self) -> u32
+        ensures { result ≡ length (world S.Store.blocks self.now).state.blocks }
+    {
+        self.device.size()
+    }
+}
