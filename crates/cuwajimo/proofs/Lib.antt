@@ -1,7 +1,11 @@
+mod Asked
 mod Comments
+mod Cutting
 mod Fills
 mod Hexadecimal
 mod Layers
+mod Named
+mod Parts
 mod Refilled
 mod Troubles
 mod Padding

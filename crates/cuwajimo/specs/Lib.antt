@@ -1,10 +1,12 @@
 pub mod Answers
 pub mod Bytes
+pub mod CallLines
 pub mod Calls
 pub mod Fills
 pub mod Lines
 pub mod Media
 pub mod Plans
+pub mod Readings
 pub mod Sums
 pub mod Troubles
 pub mod Words

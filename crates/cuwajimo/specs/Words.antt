@@ -1,5 +1,5 @@
 -- What the words of a line stand for. A word is the list of its bytes.
-use Rattle.std.specs.Prelude.{◌≡◌, ℕ, ◌+◌, ◌-◌, ◌*◌, Bool, cond, ◌&&◌, List, [], ◌∷◌, ◌++◌, length, Some, None, Ok, Err, Option, Result, nat_le, nat_lt}
+use Rattle.std.specs.Prelude.{◌≡◌, ℕ, ◌+◌, ◌-◌, ◌*◌, ◌⊎◌, Bool, cond, ◌&&◌, List, [], ◌∷◌, ◌++◌, length, Some, None, Ok, Err, Option, Result, nat_le, nat_lt}
 use Rattle.std.specs.Option.{option_map}
 use Rattle.std.specs.Str.{all_ascii_digits}
 use Rattle.std.specs.Str.Parse.{without_leading_plus}
@@ -49,3 +49,30 @@ hex_bytes (a ∷ b ∷ rest) = pair_joined (hex_digit a) (hex_digit b) (hex_byte
 abbrev pub HexAdded : List ℕ → List ℕ → List ℕ → Result (Unit {0}) Trouble → Type 0
 HexAdded word before after (Ok t) = option_map (λ bytes. before ++ bytes) (hex_bytes word) ≡ Some after
 HexAdded word before after (Err e) = IfLine e (hex_bytes word ≡ None)
+
+-- Two parts one after the other, where there are both.
+abbrev pub parts_joined : Option (List ℕ) → Option (List ℕ) → Option (List ℕ)
+parts_joined None rest = None
+parts_joined (Some part) rest = option_map (λ more. part ++ more) rest
+
+-- What some words stand for, one word's part after the other's; none where a word stands for nothing.
+abbrev pub all_parts : (List ℕ → Option (List ℕ)) → List (List ℕ) → Option (List ℕ)
+all_parts part_of [] = Some []
+all_parts part_of (word ∷ words) = parts_joined (part_of word) (all_parts part_of words)
+
+-- The bytes that some words of hexadecimal digits stand for.
+abbrev pub all_bytes : List (List ℕ) → Option (List ℕ)
+all_bytes words = all_parts hex_bytes words
+
+-- The number that a word writes, alone.
+abbrev pub one_number : ℕ → List ℕ → Option (List ℕ)
+one_number limit word = option_map (λ n. n ∷ []) (number_below limit word)
+
+-- The numbers that some words write, each below the limit.
+abbrev pub all_numbers : ℕ → List (List ℕ) → Option (List ℕ)
+all_numbers limit words = all_parts (one_number limit) words
+
+-- A word that may be missing is there, and is one of some names.
+abbrev pub IsOneOf : List (List ℕ) → Option (List ℕ) → Type 0
+IsOneOf [] word = ⊥
+IsOneOf (name ∷ names) word = (word ≡ Some name) ⊎ IsOneOf names word

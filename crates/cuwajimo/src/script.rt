@@ -3,7 +3,7 @@ ghost use Rattle.cuwajimo.specs.Lines.{before_comment};
 
 use super::call::read_call;
 use super::case::Case;
-use super::line::Line;
+use super::line::{Line, split_words};
 use super::trouble::{Spot, Trouble};
 use std::alloc::Global;
 
@@ -44,8 +44,10 @@ pub(super) fn cases(heap: Global, text: &str) -> Result<Vec<Case>, Trouble> {
             cases.push(case)?;
             case = Case::new(heap);
         } else if !text.is_empty() {
+            let words = split_words(heap, text)?;
             let spot = Spot { heap, line };
-            read_line(Line { spot, text }, &mut case)?;
+            let words = words.as_slice();
+            read_line(Line { spot, words, text }, &mut case)?;
         }
     }
     cases.push(case)?;

@@ -110,7 +110,8 @@ fn digit(letter: u8) -> Option<u8>
 
 /// Adds a word's bytes, two hexadecimal digits each.
 pub(super) fn add_hex(spot: Spot, bytes: &mut Vec<u8>, word: &str) -> Result<(), Trouble>
-    ensures { HexAdded word.now bytes.old.items bytes.new.items result }
+    ensures value { HexAdded word.now bytes.old.items bytes.new.items result }
+    ensures line { Blamed spot.line result }
 {
     let mut high = None;
     for letter in word.as_bytes() {

@@ -5,8 +5,8 @@ use Rattle.cuwajimo.proofs.Troubles.{blamed_for}
 use Rattle.cuwajimo.proofs.words.add_hex.Goals as goal
 use Rattle.cuwajimo.proofs.words.add_hex.Goals.{in-None, in-Some-high+in_ok-push-in-Some-high}
 
-pub returns-in_default : goal.returns-in_default
-returns-in_default c =
+pub returns-in_default-clause-value : goal.returns-in_default-clause-value
+returns-in_default-clause-value c =
     let xs = c.args.word.now in
     let e : c.as_bytes-letter-items.result.now ≡ xs = c.as_bytes-letter-items.ensures.value in
     let i = c.loop-letter.letter-index in
@@ -41,14 +41,14 @@ loop-letter-preserved c =
           w.in-Some-high.is more w.high-is
     ]
 
-pub returns-in-None-high : goal.returns-in-None-high
-returns-in-None-high c =
+pub returns-in-None-high-clause-value : goal.returns-in-None-high-clause-value
+returns-in-None-high-clause-value c =
     let xs = c.args.word.now in
     let past : length xs ≤ c.loop-letter.letter-index = omega (arith, ap length c.as_bytes-letter-items.ensures.value, c.loop-letter-test.false) in
     read_all xs (vec_items c.args.bytes.now) (vec_items c.loop-letter.bytes) c.loop-letter.high c.loop-letter.letter-index c.loop-letter.invariant.1 past c.in-None-high.is
 
-pub returns-in-Some-high-2 : goal.returns-in-Some-high-2
-returns-in-Some-high-2 c =
+pub returns-in-Some-high-2-clause-value : goal.returns-in-Some-high-2-clause-value
+returns-in-Some-high-2-clause-value c =
     let xs = c.args.word.now in
     let past : length xs ≤ c.loop-letter.letter-index = omega (arith, ap length c.as_bytes-letter-items.ensures.value, c.loop-letter-test.false) in
     blamed_for c.about-in-Some-high-2.result c.args.spot.line (hex_bytes xs ≡ None) c.about-in-Some-high-2.ensures
