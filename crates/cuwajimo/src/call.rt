@@ -1,5 +1,10 @@
-ghost use Rattle.std.specs.Prelude.{◌≡◌, Some};
+ghost use Rattle.std.specs.Prelude.{◌≡◌, if◌then◌else◌, Some, None, is_some, slice_get};
+ghost use Rattle.std.specs.Result.{result_ok};
+ghost use Rattle.cuwajimo.specs.CallLines.{IsFilling, AsksFor, IsBlocks, IsCommonLine, IsCallOn, NamesHostAct, NamesCommon, NamesCall};
 ghost use Rattle.cuwajimo.specs.Calls.{host_act_name, act_name, is_off_act};
+ghost use Rattle.cuwajimo.specs.Lines.{line_words};
+ghost use Rattle.cuwajimo.specs.Readings.{Reads, ReadsInMemory, ReadsNamed, ReadsNamedInMemory};
+ghost use Rattle.cuwajimo.specs.Troubles.{Blamed};
 
 use super::line::Line;
 use super::trouble::Trouble;
@@ -87,7 +92,9 @@ impl Act {
 }
 
 /// `SIZE HEX`, after the host.
-fn size_and_hex(line: Line<'_>) -> Result<Filling, Trouble> {
+fn size_and_hex(line: Line<'_>) -> Result<Filling, Trouble>
+    ensures { ReadsInMemory line.entry.spot.line (IsFilling (line_words line.entry)) result }
+{
     Ok(Filling {
         size: line.number(2)?,
         bytes: line.hex(3)?,
@@ -95,13 +102,18 @@ fn size_and_hex(line: Line<'_>) -> Result<Filling, Trouble> {
 }
 
 /// A call with nothing after so many words.
-fn alone<T: Drop>(line: Line<'_>, words: usize, act: T) -> Result<Option<T>, Trouble> {
+fn alone<T: Drop>(line: Line<'_>, words: usize, act: T) -> Result<Option<T>, Trouble>
+    ensures value { result_ok result ≡ (if is_some (slice_get (line_words line.entry) words) then None else Some (Some act)) }
+    ensures line { Blamed line.entry.spot.line result }
+{
     line.end(words)?;
     Ok(Some(act))
 }
 
 /// What a line asks for its host, or none where its first word is no such call's.
-fn host_act(line: Line<'_>) -> Result<Option<HostAct>, Trouble> {
+fn host_act(line: Line<'_>) -> Result<Option<HostAct>, Trouble>
+    ensures { ReadsNamedInMemory line.entry.spot.line (NamesHostAct (line_words line.entry)) (AsksFor (line_words line.entry)) result }
+{
     match line.first() {
         Some("command") => Ok(Some(HostAct::Command(line.hex(2)?))),
         Some("segment") => Ok(Some(HostAct::Segment(size_and_hex(line)?))),
@@ -116,26 +128,33 @@ fn host_act(line: Line<'_>) -> Result<Option<HostAct>, Trouble> {
 }
 
 /// A call of no host, or none.
-fn common_act(line: Line<'_>) -> Result<Option<Act>, Trouble> {
+fn common_act(line: Line<'_>) -> Result<Option<Act>, Trouble>
+    ensures { ReadsNamed line.entry.spot.line (NamesCommon (line_words line.entry)) (IsCommonLine (line_words line.entry)) result }
+{
     match line.first() {
         Some("locks") => alone(line, 1, Act::Locks),
         Some("activity") => alone(line, 1, Act::Activity),
         Some("off") => alone(line, 1, Act::Off),
         Some("save") => alone(line, 1, Act::Save),
-        Some("blocks") => blocks(line),
+        Some("blocks") => Ok(Some(blocks(line)?)),
         _ => Ok(None),
     }
 }
 
 /// `blocks F N`
-fn blocks(line: Line<'_>) -> Result<Option<Act>, Trouble> {
+fn blocks(line: Line<'_>) -> Result<Act, Trouble>
+    ensures { Reads line.entry.spot.line (IsBlocks (line_words line.entry)) result }
+{
     let first = line.number(1)?;
     let count = line.number(2)?;
-    alone(line, 3, Act::Blocks { first, count })
+    line.end(3)?;
+    Ok(Act::Blocks { first, count })
 }
 
 /// A call's line, or none where its first word is no call's.
-pub(super) fn read_call(line: Line<'_>) -> Result<Option<Call>, Trouble> {
+pub(super) fn read_call(line: Line<'_>) -> Result<Option<Call>, Trouble>
+    ensures { ReadsNamedInMemory line.entry.spot.line (NamesCall (line_words line.entry)) (IsCallOn line.entry.spot.line (line_words line.entry)) result }
+{
     let act = match host_act(line)? {
         Some(act) => Some(Act::Host {
             host: line.number(1)?,
