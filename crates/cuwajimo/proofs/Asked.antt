@@ -8,7 +8,7 @@ use Rattle.cuwajimo.specs.declared.call.Filling.{Filling}
 use Rattle.cuwajimo.specs.declared.call.HostAct.{HostAct}
 use Rattle.cuwajimo.specs.declared.call.HostAct.TheVariants as host_acts
 use Rattle.cuwajimo.specs.Calls.{host_act_name, act_name}
-use Rattle.cuwajimo.specs.CallLines.{IsFilling, AsksFor, IsBlocks, IsCommonLine, IsHostLine, IsCallLine, IsCallOn, NamesHostAct, NamesCommon, host_act_names, common_names}
+use Rattle.cuwajimo.specs.CallLines.{IsFilling, AsksFor, IsBlocks, IsCommonLine, IsHostLine, IsCallLine, NamesHostAct, host_act_names}
 use Rattle.cuwajimo.specs.Words.{all_bytes, IsOneOf}
 use Rattle.cuwajimo.proofs.Named.{apart, none_of}
 

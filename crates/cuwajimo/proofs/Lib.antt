@@ -1,8 +1,11 @@
 mod Asked
+mod BuildNames
+mod Building
 mod Comments
 mod Cutting
 mod Fills
 mod Hexadecimal
+mod Images
 mod Layers
 mod Named
 mod Parts

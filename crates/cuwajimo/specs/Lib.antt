@@ -1,4 +1,5 @@
 pub mod Answers
+pub mod BuildLines
 pub mod Bytes
 pub mod CallLines
 pub mod Calls

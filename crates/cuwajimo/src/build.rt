@@ -1,6 +1,9 @@
-ghost use Rattle.std.specs.Prelude.{◌≡◌, not, is_some, is_ok};
-ghost use Rattle.cuwajimo.specs.Troubles.{Blamed};
+ghost use Rattle.std.specs.Prelude.{◌≡◌, not, is_some, is_ok, IsSomeAnd, None};
+ghost use Rattle.cuwajimo.specs.BuildLines.{IsFlat, IsRaw, IsRawInMemory, IsRun, IsUnit, IsSingle, IsAny, IsOverImage, IsOfDevice, Builds};
+ghost use Rattle.cuwajimo.specs.Lines.{line_words};
 ghost use Rattle.cuwajimo.specs.Plans.{first_set, FillAdded};
+ghost use Rattle.cuwajimo.specs.Readings.{Reads, ReadsInMemory};
+ghost use Rattle.cuwajimo.specs.Troubles.{Blamed};
 
 use super::line::Line;
 use super::plan::{Fill, Plan, Source};
@@ -12,7 +15,9 @@ use layer::run::Run;
 use store::fault::Protection;
 
 /// `flat N`, or `flat DATA MAP`.
-fn flat(line: Line<'_>) -> Result<Source, Trouble> {
+fn flat(line: Line<'_>) -> Result<Source, Trouble>
+    ensures { ReadsInMemory line.entry.spot.line (IsFlat line.entry.spot.line (line_words line.entry)) result }
+{
     if is_number(line.word(1)?) {
         let blocks = line.number(1)?;
         line.end(2)?;
@@ -25,7 +30,9 @@ fn flat(line: Line<'_>) -> Result<Source, Trouble> {
 }
 
 /// `raw T R S0 .. ST-1`, or `raw DATA SPARES R`.
-fn raw(line: Line<'_>) -> Result<Source, Trouble> {
+fn raw(line: Line<'_>) -> Result<Source, Trouble>
+    ensures { ReadsInMemory line.entry.spot.line (IsRaw line.entry.spot.line (line_words line.entry)) result }
+{
     if is_number(line.word(1)?) {
         return raw_in_memory(line);
     }
@@ -40,7 +47,9 @@ fn raw(line: Line<'_>) -> Result<Source, Trouble> {
     })
 }
 
-fn raw_in_memory(line: Line<'_>) -> Result<Source, Trouble> {
+fn raw_in_memory(line: Line<'_>) -> Result<Source, Trouble>
+    ensures { ReadsInMemory line.entry.spot.line (IsRawInMemory (line_words line.entry)) result }
+{
     let tracks = line.number::<u32>(1)?;
     let records = line.number(2)?;
     let spares = line.numbers(3)?;
@@ -55,7 +64,9 @@ fn raw_in_memory(line: Line<'_>) -> Result<Source, Trouble> {
 
 /// A layer's run, of which there is at most one.
 // That a second is refused is said before its numbers are read, so `set_once` does not serve.
-fn run(line: Line<'_>, earlier: Option<Run>) -> Result<Option<Run>, Trouble> {
+fn run(line: Line<'_>, earlier: Option<Run>) -> Result<Option<Run>, Trouble>
+    ensures { Reads line.entry.spot.line (λ r. (earlier ≡ None) × IsSomeAnd r (IsRun (line_words line.entry))) result }
+{
     if earlier.is_some() {
         return Err(line.spot.trouble("a second layer of one kind"));
     }
@@ -66,7 +77,9 @@ fn run(line: Line<'_>, earlier: Option<Run>) -> Result<Option<Run>, Trouble> {
 }
 
 /// `unit F C D S`
-fn unit(line: Line<'_>) -> Result<Unit, Trouble> {
+fn unit(line: Line<'_>) -> Result<Unit, Trouble>
+    ensures { Reads line.entry.spot.line (IsUnit (line_words line.entry)) result }
+{
     let unit = Unit {
         first: line.number(1)?,
         geometry: Geometry {
@@ -80,7 +93,9 @@ fn unit(line: Line<'_>) -> Result<Unit, Trouble> {
 }
 
 /// A line with one number after its first word.
-fn single(line: Line<'_>) -> Result<u32, Trouble> {
+fn single(line: Line<'_>) -> Result<u32, Trouble>
+    ensures { Reads line.entry.spot.line (IsSingle (line_words line.entry)) result }
+{
     let n = line.number(1)?;
     line.end(2)?;
     Ok(n)
@@ -106,7 +121,8 @@ fn set_once<T: Drop>(
 
 /// Adds what is to be done to the image, which stands before it.
 fn add_fill(spot: Spot, plan: &mut Plan, fill: Fill) -> Result<(), Trouble>
-    ensures { FillAdded plan.old fill plan.new result }
+    ensures value { FillAdded plan.old fill plan.new result }
+    ensures line { Blamed spot.line result }
 {
     if plan.source.is_none() {
         return Err(spot.trouble("no image yet"));
@@ -117,7 +133,9 @@ fn add_fill(spot: Spot, plan: &mut Plan, fill: Fill) -> Result<(), Trouble>
 
 impl Plan {
     /// Adds what a building line says.
-    pub(super) fn read(&mut self, line: Line<'_>) -> Result<(), Trouble> {
+    pub(super) fn read(&mut self, line: Line<'_>) -> Result<(), Trouble>
+        ensures { Builds IsAny line.entry.spot.line (line_words line.entry) self.old self.new result }
+    {
         match line.first() {
             Some("flat") => self.set_source(line.spot, flat(line)?),
             Some("raw") => self.set_source(line.spot, raw(line)?),
@@ -127,35 +145,58 @@ impl Plan {
         }
     }
 
-    fn set_source(&mut self, spot: Spot, source: Source) -> Result<(), Trouble> {
+    fn set_source(&mut self, spot: Spot, source: Source) -> Result<(), Trouble>
+        ensures answer { is_ok result ≡ not (is_some self.old.source) }
+        ensures after { self.new ≡ record self.old { source = first_set self.old.source source } }
+        ensures line { Blamed spot.line result }
+    {
         set_once(spot, &mut self.source, source, "a second image")
     }
 
-    fn read_layer(&mut self, line: Line<'_>) -> Result<(), Trouble> {
+    fn read_layer(&mut self, line: Line<'_>) -> Result<(), Trouble>
+        ensures { Builds IsOverImage line.entry.spot.line (line_words line.entry) self.old self.new result }
+    {
         match line.first() {
             Some("protect") => {
                 line.end(1)?;
                 self.protection = Protection::Protected;
+                Ok(())
             }
-            Some("window") => self.window = run(line, self.window)?,
-            Some("guard") => self.guard = run(line, self.guard)?,
+            Some("window") => {
+                self.window = run(line, self.window)?;
+                Ok(())
+            }
+            Some("guard") => {
+                self.guard = run(line, self.guard)?;
+                Ok(())
+            }
             Some("cache") => {
                 line.end(1)?;
                 self.cache = true;
+                Ok(())
             }
-            _ => return self.read_map(line),
+            _ => self.read_map(line),
         }
-        Ok(())
     }
 
-    fn read_map(&mut self, line: Line<'_>) -> Result<(), Trouble> {
+    fn read_map(&mut self, line: Line<'_>) -> Result<(), Trouble>
+        ensures { Builds IsOfDevice line.entry.spot.line (line_words line.entry) self.old self.new result }
+    {
         match line.first() {
-            Some("unit") => self.units.push(unit(line)?)?,
-            Some("end") => self.end = single(line)?,
-            Some("device") => self.device = single(line)?,
-            Some(other) => return Err(line.spot.about("unknown word", other)),
-            None => {}
+            Some("unit") => {
+                self.units.push(unit(line)?)?;
+                Ok(())
+            }
+            Some("end") => {
+                self.end = single(line)?;
+                Ok(())
+            }
+            Some("device") => {
+                self.device = single(line)?;
+                Ok(())
+            }
+            Some(other) => Err(line.spot.about("unknown word", other)),
+            None => Ok(()),
         }
-        Ok(())
     }
 }

@@ -1,4 +1,4 @@
-use Rattle.std.proofs.Common.{Option, inl, inr}
+use Rattle.std.proofs.Common.{inl, inr}
 use Rattle.std.specs.Prelude.{slice_get, codes}
 use Rattle.std.proofs.lemmas.Result.{err_from_is_err_and}
 use Rattle.cuwajimo.specs.Lines.{line_words}

@@ -1,4 +1,4 @@
-use Rattle.std.proofs.Common.{◌≡◌, ℕ, List, drop, None, Option, inl, inr, refl}
+use Rattle.std.proofs.Common.{◌≡◌, drop, None, inl, inr}
 use Rattle.std.specs.Prelude.{slice_get, codes}
 use Rattle.std.proofs.lemmas.Result.{err_from_is_err_and}
 use Rattle.cuwajimo.specs.declared.call.HostAct.{HostAct}
@@ -9,7 +9,7 @@ use Rattle.cuwajimo.specs.Lines.{line_words}
 use Rattle.cuwajimo.specs.Words.{all_bytes}
 use Rattle.cuwajimo.proofs.Asked.{not_command, not_segment, not_report, not_cancel, not_clear, not_notice, not_fault, not_params}
 use Rattle.cuwajimo.proofs.Named.{reads_name, in_memory, alone_read}
-use Rattle.cuwajimo.proofs.Troubles.{blamed_for, if_line_weaker}
+use Rattle.cuwajimo.proofs.Troubles.{if_line_weaker}
 use Rattle.cuwajimo.proofs.call.host_act.Goals as goal
 
 pub returns-in_err-hex-in-Some-command : goal.returns-in_err-hex-in-Some-command

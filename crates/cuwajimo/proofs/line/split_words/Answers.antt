@@ -1,4 +1,4 @@
-use Rattle.std.proofs.Common.{List, ap, subst, sym, ◌∙◌}
+use Rattle.std.proofs.Common.{subst, sym}
 use Rattle.std.proofs.lemmas.Result.{IfOk-weaker}
 use Rattle.cuwajimo.specs.Lines.{AreWords, texts}
 use Rattle.cuwajimo.proofs.Cutting.{words_cut}

@@ -1,10 +1,10 @@
-use Rattle.std.proofs.Common.{◌≡◌, ◌≤◌, ◌++◌, List, ℕ, [], ◌∷◌, length, drop, get_or, map, Some, None, Option, vec_items, sym, ap, ◌∙◌, arith}
+use Rattle.std.proofs.Common.{◌≡◌, ◌≤◌, [], ◌∷◌, length, drop, map, None, vec_items, sym, ap, ◌∙◌, arith}
 use Rattle.std.specs.Option.{option_map}
 use Rattle.std.proofs.lemmas.List.{map-append}
 use Rattle.std.proofs.lemmas.Result.{err_from_is_err_and}
 use Rattle.cuwajimo.specs.Lines.{texts, line_words}
-use Rattle.cuwajimo.specs.Words.{one_number, all_numbers, number_below}
-use Rattle.cuwajimo.proofs.Parts.{parts_on, parts_begin, no_word, refs_turn, refs_refused, refs_end}
+use Rattle.cuwajimo.specs.Words.{one_number, all_numbers}
+use Rattle.cuwajimo.proofs.Parts.{parts_on, parts_begin, refs_turn, refs_refused, refs_end}
 use Rattle.cuwajimo.proofs.Troubles.{blamed_for}
 use Rattle.cuwajimo.proofs.line.Line.numbers.Goals as goal
 
