@@ -8,8 +8,7 @@ use Rattle.cuwajimo.specs.declared.plan.Fill.{Fill}
 use Rattle.cuwajimo.specs.declared.plan.Fill.TheVariants as fills
 use Rattle.cuwajimo.specs.declared.plan.Source.{Source}
 use Rattle.cuwajimo.specs.declared.plan.Source.TheVariants as sources
-use Rattle.cuwajimo.specs.BuildLines.{Building, image, fill, protect, window, guard, cache, unit, end, device, building_name, IsBuildingLine, IsFlat, IsRaw, IsFill, IsRun, IsUnit, IsSingle}
-use Rattle.cuwajimo.specs.CallLines.{EndsAfter}
+use Rattle.cuwajimo.specs.BuildLines.{Building, image, fill, window, guard, unit, building_name, IsBuildingLine, IsFlat, IsRaw, IsFill, IsRun, IsUnit, IsSingle}
 use Rattle.cuwajimo.proofs.Named.{apart}
 
 -- A fact of whatever a line says follows from the fact of what its first word names.

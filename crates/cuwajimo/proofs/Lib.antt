@@ -4,6 +4,7 @@ mod Building
 mod Comments
 mod Cutting
 mod Fills
+mod Folding
 mod Hexadecimal
 mod Images
 mod Layers

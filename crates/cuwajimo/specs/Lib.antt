@@ -8,6 +8,7 @@ pub mod Lines
 pub mod Media
 pub mod Plans
 pub mod Readings
+pub mod Scripts
 pub mod Sums
 pub mod Troubles
 pub mod Words

@@ -1,5 +1,6 @@
-ghost use Rattle.std.specs.Prelude.{◌≡◌, [], ◌++◌, OnOk};
+ghost use Rattle.std.specs.Prelude.{◌≡◌, [], ◌++◌, OnOk, IsOkUnless};
 ghost use Rattle.std.specs.Option.{option_map};
+ghost use Rattle.cuwajimo.specs.declared.trouble.Trouble.TheVariants.{Memory as NoMemory};
 ghost use Rattle.cuwajimo.specs.Plans.{NothingAsked};
 ghost use Rattle.cuwajimo.specs.Calls.{calls_on, calls_off, first_of, CallAdded};
 
@@ -38,7 +39,8 @@ impl Case {
 
     /// Adds a call after those that are there.
     pub(super) fn add(&mut self, call: Call) -> Result<(), Trouble>
-        ensures { OnOk result (CallAdded self.old call self.new) }
+        ensures added { OnOk result (CallAdded self.old call self.new) }
+        ensures memory { IsOkUnless result NoMemory }
     {
         if call.act.is_off() || !self.off.is_empty() {
             self.off.push(call)?;
