@@ -44,21 +44,7 @@ abbrev pub first_set : {X : Type 0} → Option X → X → Option X
 first_set None value = Some value
 first_set (Some earlier) value = Some earlier
 
--- The plan with other things to do to the image.
-abbrev pub with_fills : Plan → Plan → Plan
-with_fills other plan = record {
-  source = plan.source;
-  fills = other.fills;
-  protection = plan.protection;
-  window = plan.window;
-  guard = plan.guard;
-  cache = plan.cache;
-  units = plan.units;
-  end = plan.end;
-  device = plan.device;
-}
-
 -- What is to be done to the image is added last, and nothing else is changed; a line that stands before the image is refused.
 abbrev pub FillAdded : Plan → Fill → Plan → Result (Unit {0}) Trouble → Type 0
-FillAdded before fill after (Ok t) = (is_some before.source ≡ true) × (vec_items after.fills ≡ vec_items before.fills ++ fill ∷ []) × (after ≡ with_fills after before)
+FillAdded before fill after (Ok t) = (is_some before.source ≡ true) × (vec_items after.fills ≡ vec_items before.fills ++ fill ∷ []) × (after ≡ record before { fills = after.fills })
 FillAdded before fill after (Err e) = IfLine e (before.source ≡ None)

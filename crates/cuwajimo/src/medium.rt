@@ -5,7 +5,7 @@ use super::fill::Mark;
 use super::plan::Source;
 use super::trouble::Trouble;
 use flat::flat::FlatImage;
-use image::check::BLOCK_LIMIT;
+use image::check::may_have;
 use image::refusal::Refusal;
 use raw::raw::RawImage;
 use std::alloc::Global;
@@ -36,7 +36,7 @@ fn flat(heap: Global, blocks: u32) -> Result<Medium, Trouble>
     ensures memory { IfOk result (ZeroFlat blocks) }
     ensures count { IfOk result (λ m. medium_count m ≡ (if nat_le blocks 4194304 then Some blocks else None)) }
 {
-    if blocks as usize > BLOCK_LIMIT {
+    if !may_have(blocks as usize) {
         return Ok(Medium::Flat {
             bytes: vec![in heap]?,
             damage: vec![in heap; 0u8; 1]?,

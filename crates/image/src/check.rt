@@ -1,10 +1,17 @@
-ghost use Rattle.std.specs.Prelude.{◌≡◌};
-ghost use Rattle.image.specs.Images.{asked};
+ghost use Rattle.std.specs.Prelude.{◌≡◌, nat_le};
+ghost use Rattle.image.specs.Images.{asked, block_limit};
 
 use store::fault::{BLOCK_BYTES, FaultKind, StoreFault};
 
 /// The most blocks that an image has.
-pub const BLOCK_LIMIT: usize = 4_194_304;
+const BLOCK_LIMIT: usize = 4_194_304;
+
+/// Whether an image may have so many blocks.
+pub fn may_have(blocks: usize) -> bool
+    ensures { result ≡ nat_le blocks block_limit }
+{
+    blocks <= BLOCK_LIMIT
+}
 
 /// What a call that moves a block's bytes asks first: a buffer of one block, then a block that is there.
 // Inlined before all else, since its answer would otherwise be handed over in memory at each block.

@@ -100,7 +100,7 @@ impl<S: Store> Store for Window<S> {
 
     fn protection(&self, block: u32) -> Result<Protection, StoreFault> {
         let at = self.place(block)?;
-        renumber(self.below.protection(at), block)
+        self.below.protection(at)
     }
 
     fn settle(&mut self)

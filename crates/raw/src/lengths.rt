@@ -2,7 +2,7 @@ ghost use Rattle.std.specs.Prelude.{◌≡◌};
 ghost use Rattle.raw.specs.Raw.{records_fit, raw_count};
 
 use super::tracks::RECORD_BYTES;
-use image::check::BLOCK_LIMIT;
+use image::check::may_have;
 
 /// The least records of a track.
 const RECORDS_LEAST: u32 = 2;
@@ -22,11 +22,11 @@ pub fn raw_count(bytes: usize, tracks: usize, records: u32) -> Option<u32>
     ensures { result ≡ raw_count bytes tracks records }
 {
     // each track has a block, so more tracks are too many, and no product below overflows
-    if !records_fit(records) || tracks > BLOCK_LIMIT {
+    if !records_fit(records) || !may_have(tracks) {
         return None;
     }
     let records = records as usize;
     let blocks = tracks * (records - 1);
-    let fits = bytes == RECORD_BYTES * (records * tracks) && blocks <= BLOCK_LIMIT;
+    let fits = bytes == RECORD_BYTES * (records * tracks) && may_have(blocks);
     fits.then(|| blocks as u32)
 }
