@@ -1,7 +1,7 @@
 //! The proved device, by the three C functions of `libboundary.a`. All that is unsafe stands here.
 
-use crate::plain::layers::Run;
-use crate::trials::case::Side;
+use crate::trials::case::{Lent, Side};
+use std::ops::DerefMut;
 
 unsafe extern "C" {
     fn cuwajimo_flat(
@@ -48,63 +48,64 @@ unsafe extern "C" {
 pub struct Proved;
 
 impl Side for Proved {
-    fn flat(image: &mut [u8], damage: &mut [u8], trace: &[u8], output: &mut [u8]) -> u64 {
-        // SAFETY: each pointer comes with its slice's length, and the library keeps none after the call.
-        unsafe {
-            cuwajimo_flat(
-                image.as_mut_ptr(),
-                image.len(),
-                damage.as_mut_ptr(),
-                damage.len(),
-                trace.as_ptr(),
-                trace.len(),
-                output.as_mut_ptr(),
-                output.len(),
-            )
-        }
-    }
-
-    fn raw(image: &mut [u8], spares: &[u8], records: u32, trace: &[u8], output: &mut [u8]) -> u64 {
-        // SAFETY: as in `flat`; the spare places are only read.
-        unsafe {
-            cuwajimo_raw(
-                image.as_mut_ptr(),
-                image.len(),
-                spares.as_ptr(),
-                spares.len(),
-                records,
-                trace.as_ptr(),
-                trace.len(),
-                output.as_mut_ptr(),
-                output.len(),
-            )
-        }
-    }
-
-    fn pile(
-        image: &mut [u8],
-        damage: &mut [u8],
-        window: Run,
-        guard: Run,
+    fn run<Bytes: DerefMut<Target = [u8]>>(
+        lent: &mut Lent<Bytes>,
         trace: &[u8],
         output: &mut [u8],
     ) -> u64 {
-        // SAFETY: as in `flat`.
-        unsafe {
-            cuwajimo_pile(
-                image.as_mut_ptr(),
-                image.len(),
-                damage.as_mut_ptr(),
-                damage.len(),
-                window.first,
-                window.count,
-                guard.first,
-                guard.count,
-                trace.as_ptr(),
-                trace.len(),
-                output.as_mut_ptr(),
-                output.len(),
-            )
+        // SAFETY, of each call: each pointer comes with its slice's length, and the library keeps none after the call; a raw
+        // image's spare places are only read.
+        match lent {
+            Lent::Flat { image, damage } => unsafe {
+                cuwajimo_flat(
+                    image.as_mut_ptr(),
+                    image.len(),
+                    damage.as_mut_ptr(),
+                    damage.len(),
+                    trace.as_ptr(),
+                    trace.len(),
+                    output.as_mut_ptr(),
+                    output.len(),
+                )
+            },
+            Lent::Raw {
+                image,
+                spares,
+                records,
+            } => unsafe {
+                cuwajimo_raw(
+                    image.as_mut_ptr(),
+                    image.len(),
+                    spares.as_ptr(),
+                    spares.len(),
+                    *records,
+                    trace.as_ptr(),
+                    trace.len(),
+                    output.as_mut_ptr(),
+                    output.len(),
+                )
+            },
+            Lent::Pile {
+                image,
+                damage,
+                window,
+                guard,
+            } => unsafe {
+                cuwajimo_pile(
+                    image.as_mut_ptr(),
+                    image.len(),
+                    damage.as_mut_ptr(),
+                    damage.len(),
+                    window.first,
+                    window.count,
+                    guard.first,
+                    guard.count,
+                    trace.as_ptr(),
+                    trace.len(),
+                    output.as_mut_ptr(),
+                    output.len(),
+                )
+            },
         }
     }
 }

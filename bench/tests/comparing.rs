@@ -1,9 +1,9 @@
 //! A comparison sees every kind of difference.
 
-use boundary_bench::plain::layers::Run;
-use boundary_bench::trials::case::{Case, Entry, Plain, Side};
+use boundary_bench::trials::case::{Case, Entry, Lent, Plain, Side};
 use boundary_bench::trials::comparing::compare;
 use boundary_bench::trials::generating::{Size, case};
+use std::ops::DerefMut;
 
 /// What a wrong device does wrong.
 const NOTHING: u8 = 0;
@@ -13,36 +13,25 @@ const BESIDE: u8 = 3;
 const ANSWER: u8 = 4;
 const PAST_THE_END: u8 = 5;
 
-/// The plain device, with its flat entry gone wrong in one way.
+/// The plain device, gone wrong in one way.
 struct Wrong<const HOW: u8>;
 
 impl<const HOW: u8> Side for Wrong<HOW> {
-    fn flat(image: &mut [u8], damage: &mut [u8], trace: &[u8], output: &mut [u8]) -> u64 {
-        let ended = Plain::flat(image, damage, trace, output);
+    fn run<Bytes: DerefMut<Target = [u8]>>(
+        lent: &mut Lent<Bytes>,
+        trace: &[u8],
+        output: &mut [u8],
+    ) -> u64 {
+        let ended = Plain::run(lent, trace, output);
         match HOW {
             NUMBER => return ended + 1,
-            IMAGE => image[image.len() - 1] ^= 1,
-            BESIDE => damage[0] ^= 1,
+            IMAGE => *lent.image_mut().last_mut().expect("an image") ^= 1,
+            BESIDE => lent.beside_mut()[0] ^= 1,
             ANSWER => output[0] ^= 1,
             PAST_THE_END => output[(ended & 0xFF_FFFF_FFFF) as usize] ^= 1,
             _ => {}
         }
         ended
-    }
-
-    fn raw(image: &mut [u8], spares: &[u8], records: u32, trace: &[u8], output: &mut [u8]) -> u64 {
-        Plain::raw(image, spares, records, trace, output)
-    }
-
-    fn pile(
-        image: &mut [u8],
-        damage: &mut [u8],
-        window: Run,
-        guard: Run,
-        trace: &[u8],
-        output: &mut [u8],
-    ) -> u64 {
-        Plain::pile(image, damage, window, guard, trace, output)
     }
 }
 

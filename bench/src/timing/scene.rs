@@ -44,9 +44,8 @@ impl Scene {
     }
 
     fn run<S: Side>(&mut self) -> u64 {
-        let ended = self
-            .lent
-            .run::<S>(black_box(&self.script.trace), &mut self.output);
+        let trace = black_box(&self.script.trace);
+        let ended = S::run(&mut self.lent, trace, &mut self.output);
         black_box(&mut self.output);
         ended
     }

@@ -44,17 +44,11 @@ pub struct Case {
     pub output: Vec<u8>,
 }
 
-/// One of the two devices, by its three entry points.
+/// One of the two devices.
 pub trait Side {
-    fn flat(image: &mut [u8], damage: &mut [u8], trace: &[u8], output: &mut [u8]) -> u64;
-
-    fn raw(image: &mut [u8], spares: &[u8], records: u32, trace: &[u8], output: &mut [u8]) -> u64;
-
-    fn pile(
-        image: &mut [u8],
-        damage: &mut [u8],
-        window: Run,
-        guard: Run,
+    /// Runs a trace over lent memory, by the entry point that is the memory's.
+    fn run<Bytes: DerefMut<Target = [u8]>>(
+        lent: &mut Lent<Bytes>,
         trace: &[u8],
         output: &mut [u8],
     ) -> u64;
@@ -65,41 +59,24 @@ pub trait Side {
 pub struct Plain;
 
 impl Side for Plain {
-    fn flat(image: &mut [u8], damage: &mut [u8], trace: &[u8], output: &mut [u8]) -> u64 {
-        trace::flat(image, damage, trace, output)
-    }
-
-    fn raw(image: &mut [u8], spares: &[u8], records: u32, trace: &[u8], output: &mut [u8]) -> u64 {
-        trace::raw(image, spares, records, trace, output)
-    }
-
-    fn pile(
-        image: &mut [u8],
-        damage: &mut [u8],
-        window: Run,
-        guard: Run,
+    fn run<Bytes: DerefMut<Target = [u8]>>(
+        lent: &mut Lent<Bytes>,
         trace: &[u8],
         output: &mut [u8],
     ) -> u64 {
-        trace::pile(image, damage, window, guard, trace, output)
-    }
-}
-
-impl<Bytes: DerefMut<Target = [u8]>> Lent<Bytes> {
-    pub fn run<S: Side>(&mut self, trace: &[u8], output: &mut [u8]) -> u64 {
-        match self {
-            Self::Flat { image, damage } => S::flat(image, damage, trace, output),
-            Self::Raw {
+        match lent {
+            Lent::Flat { image, damage } => trace::flat(image, damage, trace, output),
+            Lent::Raw {
                 image,
                 spares,
                 records,
-            } => S::raw(image, spares, *records, trace, output),
-            Self::Pile {
+            } => trace::raw(image, spares, *records, trace, output),
+            Lent::Pile {
                 image,
                 damage,
                 window,
                 guard,
-            } => S::pile(image, damage, *window, *guard, trace, output),
+            } => trace::pile(image, damage, *window, *guard, trace, output),
         }
     }
 }
@@ -136,6 +113,6 @@ impl<Bytes> Lent<Bytes> {
 impl Case {
     /// Runs the trace over the case's memory and output.
     pub fn run<S: Side>(&mut self) -> u64 {
-        self.lent.run::<S>(&self.trace, &mut self.output)
+        S::run(&mut self.lent, &self.trace, &mut self.output)
     }
 }

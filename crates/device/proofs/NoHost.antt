@@ -1,25 +1,18 @@
 -- A call that names no host of the device is refused, and leaves the device as it is, but that every wait is judged.
-use Rattle.std.proofs.Common.{◌≡◌, ℕ, ◌≤◌, cond, List, [], length, set, Some, None, Option, sym, refl, ap, ◌∙◌, ap₂, inl, inr, arith}
+use Rattle.std.proofs.Common.{◌≡◌, ℕ, ◌≤◌, cond, List, [], length, set, None, sym, refl, ap, ◌∙◌, ap₂, arith}
 use Rattle.std.proofs.lemmas.List.{get_or_past, set-get_or, set_past}
-use Rattle.std.proofs.lemmas.Bool.{cases_lt, lt-ltb, le-ltb}
+use Rattle.std.proofs.lemmas.Bool.{le-ltb}
 use Rattle.store.specs.Blocks.{Block}
 use Rattle.flex.specs.declared.status.Status.TheVariants as statuses
 use Rattle.host.specs.declared.mail.Mail.{Mail}
 use Rattle.host.specs.declared.record.Host.{Host}
 use Rattle.host.specs.Hosts.{blank, host_at}
 use Rattle.host.specs.Messages.{judged, refused}
-use Rattle.host.specs.Waits.{mail_at, settle}
+use Rattle.host.specs.Waits.{settle}
 use Rattle.device.specs.declared.controller.Controller.{Controller}
 use Rattle.device.specs.declared.ticket.Ticket.TheVariants as tickets
 use Rattle.device.specs.Calls.{Call, command, segment, report, cancel, clear, notice, fault, by, Answer, refusal, returned}
-use Rattle.device.specs.Device.{State, Known, known_at, state_of, fixed, first_status, status_in, host_of, says, Served, served, posted, asked, in_way, mail_of, left_by, after, with_waits}
-
-pub no_number : (c : Controller) (h : ℕ) → None ≡ known_at c h → 8 ≤ h
-no_number c h e =
-    elim (cases_lt h 8) [
-      | inl l ↦ let f : ◌≡◌ {A = Option Known} None (Some (record { host = host_at c.hosts h; mail = mail_at c.mail h })) = rw (lt-ltb h 8 l) at e in absurd (let z : ◌≡◌ {A = ℕ} 0 1 = cc in omega arith)
-      | inr l ↦ l
-    ]
+use Rattle.device.specs.Device.{State, state_of, fixed, first_status, status_in, host_of, says, Served, served, posted, asked, in_way, mail_of, left_by, after, with_waits}
 
 -- What such a call answers: 128/4 where it names the host itself, and 1/6 where its ticket bears it.
 abbrev refused_to : Call → Answer

@@ -228,13 +228,11 @@ pub record Known : Type 0 where
   pub host : Host
   pub mail : Mail
 
--- What is kept of a host, if its number is 0 to 7; its record and mail are put back, and every wait is judged.
-abbrev pub known_at : Controller → ℕ → Option Known
-known_at c h = cond (nat_lt h 8) (Some (record { host = host_at c.hosts h; mail = mail_at c.mail h })) None
-
+-- Every wait is judged.
 abbrev pub with_waits : Controller → Controller
 with_waits c = record { number = c.number; map = c.map; hosts = c.hosts; mail = settle c.hosts c.mail; activity = c.activity }
 
+-- The same after what is kept of a host was put in its place.
 abbrev pub with_host : Controller → ℕ → Known → Controller
 with_host c h k = with_waits (record { number = c.number; map = c.map; hosts = slice_set c.hosts h k.host; mail = slice_set c.mail h k.mail; activity = c.activity })
 

@@ -1,6 +1,5 @@
 -- One turn of the loop that writes blocks, over plain lists.
-use Rattle.std.proofs.Common.{◌≡◌, ℕ, zero, suc, ◌+◌, ◌-◌, ◌*◌, ◌<◌, ◌≤◌, true, false, List, ◌∷◌, length, take, drop, set, is_some, Some, None, Ok, Err, Option, Result, sym, refl, ap, ◌∙◌, ap₂, add-zero, zero-add, arith}
-use native.Mathlib.Nat.{sub-zero}
+use Rattle.std.proofs.Common.{◌≡◌, ℕ, zero, suc, ◌+◌, ◌-◌, ◌*◌, ◌<◌, ◌≤◌, true, false, List, ◌∷◌, length, take, drop, set, is_some, Some, None, Ok, Err, Option, Result, sym, refl, ap, ◌∙◌, ap₂, arith}
 use Rattle.std.specs.List.{slice_get}
 use Rattle.std.proofs.lemmas.List.{drop-drop, length-take, length-drop}
 use Rattle.store.specs.declared.fault.StoreFault.{StoreFault}
@@ -95,13 +94,6 @@ pub record WrittenSoFar (bs now : List Block) (b a u k n : ℕ) (buffer : List �
   pub tried : k + tried_of now (b + k) (n - k) ≡ tried_of bs b n
   pub fault : fault_of u now (b + k) (a + k) (n - k) ≡ fault_of u bs b a n
   pub after : after_of now (b + k) (n - k) (drop (256 * k) buffer) ≡ after_of bs b n buffer
-
-pub none_written : (bs : List Block) (b a u n : ℕ) (buffer : List ℕ) → WrittenSoFar bs bs b a u 0 n buffer
-none_written bs b a u n buffer = record {
-  tried = simp (add-zero, zero-add, sub-zero);
-  fault = simp (add-zero, sub-zero);
-  after = simp (add-zero, sub-zero);
-}
 
 -- The fault and the store that one more block leaves.
 module _ (bs now now' : List Block) (b a u k n : ℕ) (buffer : List ℕ) (met : Option HostFault) (before : WrittenSoFar bs now b a u k n buffer) (within : k < n) (room : 256 * n ≤ length buffer)
