@@ -76,17 +76,19 @@ pub data Building : Type 0 where
   end : ℕ → Building
   device : ℕ → Building
 
--- The word that its line begins with.
+-- The word that the line of an image begins with.
 abbrev pub source_name : Source → List ℕ
 source_name (sources.Flat blocks) = codes "flat"
 source_name (sources.FlatFiles bytes damage) = codes "flat"
 source_name (sources.Raw records spares) = codes "raw"
 source_name (sources.RawFiles bytes spares records) = codes "raw"
 
+-- The word that the line of what is done to it begins with.
 abbrev pub fill_name : Fill → List ℕ
 fill_name (fills.Pattern p) = codes "pattern"
 fill_name (fills.Damage blocks) = codes "damage"
 
+-- The word that any building line begins with.
 abbrev pub building_name : Building → List ℕ
 building_name (image source) = source_name source
 building_name (fill f) = fill_name f
@@ -98,13 +100,14 @@ building_name (unit u) = codes "unit"
 building_name (end n) = codes "end"
 building_name (device n) = codes "device"
 
--- What stands after that word.
+-- What stands after the name of an image is the image's.
 abbrev pub IsSource : ℕ → List (List ℕ) → Source → Type 0
 IsSource line words (sources.Flat blocks) = IsFlat line words (sources.Flat blocks)
 IsSource line words (sources.FlatFiles bytes damage) = IsFlat line words (sources.FlatFiles bytes damage)
 IsSource line words (sources.Raw records spares) = IsRaw line words (sources.Raw records spares)
 IsSource line words (sources.RawFiles bytes spares records) = IsRaw line words (sources.RawFiles bytes spares records)
 
+-- What stands after the first word.
 abbrev pub AreBuildingOperands : ℕ → List (List ℕ) → Building → Type 0
 AreBuildingOperands line words (image source) = IsSource line words source
 AreBuildingOperands line words (fill f) = IsFill words f
@@ -145,7 +148,7 @@ Leaves before (unit u) after = (vec_items after.units ≡ vec_items before.units
 Leaves before (end n) after = after ≡ record before { end = n }
 Leaves before (device n) after = after ≡ record before { device = n }
 
--- What is not of the image; what is of the device and its units.
+-- It is not about the image itself.
 abbrev pub IsOverImage : Building → Type 0
 IsOverImage (image source) = ⊥
 IsOverImage (fill f) = ⊥
@@ -157,6 +160,7 @@ IsOverImage (unit u) = Unit {0}
 IsOverImage (end n) = Unit {0}
 IsOverImage (device n) = Unit {0}
 
+-- It is about the device and its units.
 abbrev pub IsOfDevice : Building → Type 0
 IsOfDevice (image source) = ⊥
 IsOfDevice (fill f) = ⊥
@@ -168,6 +172,7 @@ IsOfDevice (unit u) = Unit {0}
 IsOfDevice (end n) = Unit {0}
 IsOfDevice (device n) = Unit {0}
 
+-- It is about anything.
 abbrev pub IsAny : Building → Type 0
 IsAny b = Unit {0}
 

@@ -39,12 +39,13 @@ pub record IsHostLine (words : List (List ℕ)) (host : ℕ) (act : HostAct) : T
   pub asked : AsksFor words act
   pub number : number_in 256 (slice_get words 1) ≡ Some host
 
--- The line of `blocks`: two numbers below 2^32 stand after the name, and nothing after them.
+-- What stands after the name of `blocks`: two numbers below 2^32, and nothing after them.
 pub record AreBlocks (words : List (List ℕ)) (first count : ℕ) : Type 0 where
   pub from : number_in (2 ^ 32) (slice_get words 1) ≡ Some first
   pub number : number_in (2 ^ 32) (slice_get words 2) ≡ Some count
   pub end : EndsAfter words 3
 
+-- The call is a `blocks` of two such numbers.
 abbrev pub IsBlocks : List (List ℕ) → Act → Type 0
 IsBlocks words (acts.Host host act) = ⊥
 IsBlocks words acts.Locks = ⊥
@@ -62,12 +63,12 @@ AreCommonOperands words acts.Off = EndsAfter words 1
 AreCommonOperands words (acts.Blocks first count) = AreBlocks words first count
 AreCommonOperands words acts.Save = EndsAfter words 1
 
--- The line of a call that is for no host.
+-- The line of a call that is for no host: its first word is the call's name, and what stands after it is the call's.
 pub record IsCommonLine (words : List (List ℕ)) (act : Act) : Type 0 where
   pub name : slice_get words 0 ≡ Some (act_name act)
   pub operands : AreCommonOperands words act
 
--- The line of a call.
+-- The line of a call, for a host or for none.
 abbrev pub IsCallLine : List (List ℕ) → Act → Type 0
 IsCallLine words (acts.Host host act) = IsHostLine words host act
 IsCallLine words acts.Locks = IsCommonLine words acts.Locks
@@ -76,23 +77,27 @@ IsCallLine words acts.Off = IsCommonLine words acts.Off
 IsCallLine words (acts.Blocks first count) = IsCommonLine words (acts.Blocks first count)
 IsCallLine words acts.Save = IsCommonLine words acts.Save
 
--- The names of the acts for a host, of the calls that are for no host, and of all calls.
+-- The names of the acts for a host.
 abbrev pub host_act_names : List (List ℕ)
 host_act_names = codes "command" ∷ codes "segment" ∷ codes "report" ∷ codes "cancel" ∷ codes "clear" ∷ codes "notice" ∷ codes "fault" ∷ codes "params" ∷ []
 
+-- The names of the calls that are for no host.
 abbrev pub common_names : List (List ℕ)
 common_names = codes "locks" ∷ codes "activity" ∷ codes "off" ∷ codes "save" ∷ codes "blocks" ∷ []
 
+-- The names of all calls.
 abbrev pub call_names : List (List ℕ)
 call_names = host_act_names ++ common_names
 
--- The first word is the name of an act for a host; of a call that is for no host; of a call.
+-- The first word is the name of an act for a host.
 abbrev pub NamesHostAct : List (List ℕ) → Type 0
 NamesHostAct words = IsOneOf host_act_names (slice_get words 0)
 
+-- It is the name of a call that is for no host.
 abbrev pub NamesCommon : List (List ℕ) → Type 0
 NamesCommon words = IsOneOf common_names (slice_get words 0)
 
+-- It is the name of a call.
 abbrev pub NamesCall : List (List ℕ) → Type 0
 NamesCall words = IsOneOf call_names (slice_get words 0)
 

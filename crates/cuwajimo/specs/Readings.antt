@@ -37,12 +37,13 @@ abbrev pub ReadsInMemory : {X : Type 0} → ℕ → (X → Type 0) → Result X 
 ReadsInMemory line Says (Ok x) = Says x
 ReadsInMemory {X} line Says (Err e) = Blames line e × IfLine e ((x : X) → Says x → ⊥)
 
--- The same of a line that may be named as another kind: nothing is answered exactly where it is.
+-- The same of a line that may be named as another kind: none is answered exactly where it is, and a trouble comes only where it is not.
 abbrev pub ReadsNamed : {X : Type 0} → ℕ → Type 0 → (X → Type 0) → Result (Option X) Trouble → Type 0
 ReadsNamed line Named Says (Ok None) = Named → ⊥
 ReadsNamed line Named Says (Ok (Some x)) = Says x
 ReadsNamed {X} line Named Says (Err e) = Blames line e × Named × ((x : X) → Says x → ⊥)
 
+-- The same of what takes memory.
 abbrev pub ReadsNamedInMemory : {X : Type 0} → ℕ → Type 0 → (X → Type 0) → Result (Option X) Trouble → Type 0
 ReadsNamedInMemory line Named Says (Ok None) = Named → ⊥
 ReadsNamedInMemory line Named Says (Ok (Some x)) = Says x
