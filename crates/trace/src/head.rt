@@ -12,16 +12,6 @@ use flex::unit_map::{UNITS, UnitMap};
 /// How many bytes a unit has in a head.
 const UNIT_BYTES: usize = 8;
 
-/// What stands in the places for units that a head does not fill.
-const BLANK: Unit = Unit {
-    first: 0,
-    geometry: Geometry {
-        cylinders: 0,
-        heads: 0,
-        sectors: 0,
-    },
-};
-
 /// The head of a trace: the device's number, and what its unit map is made of.
 #[derive(Clone, Copy)]
 pub struct Head<'t> {
@@ -73,7 +63,8 @@ impl<'t> Head<'t> {
         if count > UNITS {
             return Err(Status::BadUnitMap);
         }
-        let mut units = [BLANK; UNITS];
+        // what stands in the places that the head does not fill is not looked at
+        let mut units = [unit([0; UNIT_BYTES]); UNITS];
         for (place, bytes) in self.units.iter().enumerate() {
             units[place] = unit(*bytes);
         }
