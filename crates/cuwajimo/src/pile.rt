@@ -154,8 +154,7 @@ impl<J: Job + Drop> OnImage for OverImage<'_, J> {
         let plan = &self.run.case.plan;
         let below = layered(plan, image);
         if !plan.cache {
-            let Ended { store, outcome } = self.job.perform(self.run, below);
-            drop(store);
+            let Ended { store: _, outcome } = self.job.perform(self.run, below);
             return outcome;
         }
         let Ended { store, outcome } = self.job.perform(self.run, Cache::new(below));

@@ -27,8 +27,7 @@ pub fn play_flat(image: &mut [u8], damage: &mut [u8], trace: &[u8], output: &mut
     let Ok(flat) = FlatImage::open(image, damage, Protection::Open) else {
         return Ending::refused(How::NoImage);
     };
-    let Played { store, ending } = play(flat, head, calls, output);
-    drop(store);
+    let Played { store: _, ending } = play(flat, head, calls, output);
     ending
 }
 
@@ -48,8 +47,7 @@ pub fn play_raw(
     let Ok(raw) = RawImage::open(image, spares, records, Protection::Open) else {
         return Ending::refused(How::NoImage);
     };
-    let Played { store, ending } = play(raw, head, calls, output);
-    drop(store);
+    let Played { store: _, ending } = play(raw, head, calls, output);
     ending
 }
 
