@@ -1,5 +1,6 @@
 -- A line that begins with the name of a call is the line of no other call.
-use Rattle.std.proofs.Common.{◌≡◌, ℕ, List, drop, Some, None, Option, vec_items, sym, refl, ◌∙◌, inl, inr}
+use Rattle.std.proofs.Common.{◌≡◌, ℕ, cond, List, [], ◌∷◌, drop, is_some, Some, None, Option, Result, vec_items, sym, refl, ◌∙◌, inl, inr}
+use Rattle.std.specs.Result.{result_ok}
 use Rattle.std.specs.Prelude.{slice_get, codes}
 use Rattle.std.proofs.lemmas.Option.{none-some}
 use Rattle.cuwajimo.specs.declared.call.Act.{Act}
@@ -10,7 +11,17 @@ use Rattle.cuwajimo.specs.declared.call.HostAct.TheVariants as host_acts
 use Rattle.cuwajimo.specs.Calls.{host_act_name, act_name}
 use Rattle.cuwajimo.specs.CallLines.{IsFilling, AsksFor, IsBlocks, IsCommonLine, IsHostLine, IsCallLine, NamesHostAct, host_act_names}
 use Rattle.cuwajimo.specs.Words.{all_bytes, IsOneOf}
-use Rattle.cuwajimo.proofs.Named.{apart, none_of}
+use Rattle.cuwajimo.specs.declared.trouble.Trouble.{Trouble}
+use Rattle.cuwajimo.specs.Readings.{ReadsNamedInMemory}
+use Rattle.cuwajimo.specs.Troubles.{Blamed}
+use Rattle.cuwajimo.proofs.Named.{apart, none_of, in_memory, alone_read}
+
+-- The acts that lend a buffer, and those with nothing behind the host.
+abbrev pub filling_names : List (List ℕ)
+filling_names = codes "segment" ∷ codes "report" ∷ []
+
+abbrev pub bare_names : List (List ℕ)
+bare_names = codes "cancel" ∷ codes "clear" ∷ codes "notice" ∷ codes "fault" ∷ codes "params" ∷ []
 
 module _ (words : List (List ℕ)) where
   abbrev First : List ℕ → Type 0
@@ -21,34 +32,28 @@ module _ (words : List (List ℕ)) where
   not_command named none (host_acts.Command bytes) asks = none-some (vec_items bytes) (sym none ∙ asks.operands)
   not_command named none act asks = apart (slice_get words 0) (codes "command") (host_act_name act) refl named asks.name
 
-  pub not_segment : First (codes "segment") → ((filling : Filling) → IsFilling words filling → ⊥) → (act : HostAct) → AsksFor words act → ⊥
-  not_segment named none (host_acts.Segment filling) asks = none filling asks.operands
-  not_segment named none act asks = apart (slice_get words 0) (codes "segment") (host_act_name act) refl named asks.name
+  -- A buffer's size and bytes, that are none.
+  pub not_filling :
+      IsOneOf filling_names (slice_get words 0) → ((filling : Filling) → IsFilling words filling → ⊥) → (act : HostAct) → AsksFor words act → ⊥
+  not_filling named none (host_acts.Segment filling) asks = none filling asks.operands
+  not_filling named none (host_acts.Report filling) asks = none filling asks.operands
+  not_filling named none act asks = none_of filling_names (host_act_name act) (slice_get words 0) (refl, (refl, tt)) asks.name named
 
-  pub not_report : First (codes "report") → ((filling : Filling) → IsFilling words filling → ⊥) → (act : HostAct) → AsksFor words act → ⊥
-  not_report named none (host_acts.Report filling) asks = none filling asks.operands
-  not_report named none act asks = apart (slice_get words 0) (codes "report") (host_act_name act) refl named asks.name
+  -- A word behind the host of an act that takes none.
+  not_bare : (word : List ℕ) → IsOneOf bare_names (slice_get words 0) → slice_get words 2 ≡ Some word → (act : HostAct) → AsksFor words act → ⊥
+  not_bare word named more (host_acts.Command bytes) asks = none_of bare_names (codes "command") (slice_get words 0) (refl, (refl, (refl, (refl, (refl, tt))))) asks.name named
+  not_bare word named more (host_acts.Segment filling) asks = none_of bare_names (codes "segment") (slice_get words 0) (refl, (refl, (refl, (refl, (refl, tt))))) asks.name named
+  not_bare word named more (host_acts.Report filling) asks = none_of bare_names (codes "report") (slice_get words 0) (refl, (refl, (refl, (refl, (refl, tt))))) asks.name named
+  not_bare word named more act asks = none-some word (sym asks.operands ∙ more)
 
-  module _ (word : List ℕ) where
-    pub not_cancel : First (codes "cancel") → slice_get words 2 ≡ Some word → (act : HostAct) → AsksFor words act → ⊥
-    not_cancel named more host_acts.Cancel asks = none-some word (sym asks.operands ∙ more)
-    not_cancel named more act asks = apart (slice_get words 0) (codes "cancel") (host_act_name act) refl named asks.name
-
-    pub not_clear : First (codes "clear") → slice_get words 2 ≡ Some word → (act : HostAct) → AsksFor words act → ⊥
-    not_clear named more host_acts.Clear asks = none-some word (sym asks.operands ∙ more)
-    not_clear named more act asks = apart (slice_get words 0) (codes "clear") (host_act_name act) refl named asks.name
-
-    pub not_notice : First (codes "notice") → slice_get words 2 ≡ Some word → (act : HostAct) → AsksFor words act → ⊥
-    not_notice named more host_acts.Notice asks = none-some word (sym asks.operands ∙ more)
-    not_notice named more act asks = apart (slice_get words 0) (codes "notice") (host_act_name act) refl named asks.name
-
-    pub not_fault : First (codes "fault") → slice_get words 2 ≡ Some word → (act : HostAct) → AsksFor words act → ⊥
-    not_fault named more host_acts.Fault asks = none-some word (sym asks.operands ∙ more)
-    not_fault named more act asks = apart (slice_get words 0) (codes "fault") (host_act_name act) refl named asks.name
-
-    pub not_params : First (codes "params") → slice_get words 2 ≡ Some word → (act : HostAct) → AsksFor words act → ⊥
-    not_params named more host_acts.Params asks = none-some word (sym asks.operands ∙ more)
-    not_params named more act asks = apart (slice_get words 0) (codes "params") (host_act_name act) refl named asks.name
+  -- Such an act is read.
+  pub bare_read :
+      (line : ℕ) (act : HostAct) (r : Result (Option HostAct) Trouble) → NamesHostAct words → IsOneOf bare_names (slice_get words 0)
+      → (slice_get words 2 ≡ None → AsksFor words act) → result_ok r ≡ cond (is_some (slice_get words 2)) None (Some (Some act)) → Blamed line r
+      → ReadsNamedInMemory line (NamesHostAct words) (AsksFor words) r
+  bare_read line act r named bare said value blamed =
+      in_memory line (NamesHostAct words) (AsksFor words) r
+      (alone_read line (NamesHostAct words) (AsksFor words) (slice_get words 2) act r named said (λ word more. not_bare word bare more) value blamed)
 
   pub not_blocks : First (codes "blocks") → ((act : Act) → IsBlocks words act → ⊥) → (act : Act) → IsCommonLine words act → ⊥
   not_blocks named none (acts.Host host act) line = line.operands
@@ -71,21 +76,9 @@ host_named word host_acts.Params p = inr (inr (inr (inr (inr (inr (inr (inl p)))
 module _ (words : List (List ℕ)) where
   pub no_host_line : NamesHostAct words → ((host : ℕ) (act : HostAct) → IsHostLine words host act → ⊥) → (act : Act) → IsCallLine words act → ⊥
   no_host_line named none (acts.Host host act) line = none host act line
-  no_host_line named none acts.Locks line =
-      none_of host_act_names (codes "locks") (slice_get words 0) (refl, (refl, (refl, (refl, (refl, (refl, (refl, (refl, tt)))))))) line.name named
-  no_host_line named none acts.Activity line =
-      none_of host_act_names (codes "activity") (slice_get words 0) (refl, (refl, (refl, (refl, (refl, (refl, (refl, (refl, tt)))))))) line.name named
-  no_host_line named none acts.Off line =
-      none_of host_act_names (codes "off") (slice_get words 0) (refl, (refl, (refl, (refl, (refl, (refl, (refl, (refl, tt)))))))) line.name named
-  no_host_line named none (acts.Blocks first count) line =
-      none_of host_act_names (codes "blocks") (slice_get words 0) (refl, (refl, (refl, (refl, (refl, (refl, (refl, (refl, tt)))))))) line.name named
-  no_host_line named none acts.Save line =
-      none_of host_act_names (codes "save") (slice_get words 0) (refl, (refl, (refl, (refl, (refl, (refl, (refl, (refl, tt)))))))) line.name named
+  no_host_line named none act line =
+      none_of host_act_names (act_name act) (slice_get words 0) (refl, (refl, (refl, (refl, (refl, (refl, (refl, (refl, tt)))))))) line.name named
 
   pub no_common_line : (NamesHostAct words → ⊥) → ((act : Act) → IsCommonLine words act → ⊥) → (act : Act) → IsCallLine words act → ⊥
   no_common_line unnamed none (acts.Host host act) line = unnamed (host_named (slice_get words 0) act line.asked.name)
-  no_common_line unnamed none acts.Locks line = none acts.Locks line
-  no_common_line unnamed none acts.Activity line = none acts.Activity line
-  no_common_line unnamed none acts.Off line = none acts.Off line
-  no_common_line unnamed none (acts.Blocks first count) line = none (acts.Blocks first count) line
-  no_common_line unnamed none acts.Save line = none acts.Save line
+  no_common_line unnamed none act line = none act line

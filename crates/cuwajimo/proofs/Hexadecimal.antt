@@ -1,9 +1,10 @@
 -- Reading a word of hexadecimal digits letter by letter.
-use Rattle.std.proofs.Common.{◌≡◌, ℕ, ◌+◌, ◌*◌, ◌<◌, ◌≤◌, List, [], ◌∷◌, ◌++◌, length, get_or, drop, Some, None, Option, sym, refl, ap, ◌∙◌, subst, append_assoc, append-nil, arith}
+use Rattle.std.proofs.Common.{◌≡◌, ℕ, ◌+◌, ◌*◌, ◌<◌, ◌≤◌, List, [], ◌∷◌, ◌++◌, length, get_or, drop, Some, None, Option, sym, refl, ap, ◌∙◌, subst, append-nil, arith}
 use Rattle.std.specs.Option.{option_map}
 use Rattle.std.proofs.lemmas.List.{at_drop_more, at_drop_all}
 use Rattle.std.proofs.lemmas.Bool.Decides.{nat_tests}
 use Rattle.cuwajimo.specs.Words.{hex_digit, low_joined, pair_joined, hex_bytes}
+use Rattle.cuwajimo.proofs.Parts.{appended, unmapped}
 
 -- What the letters that are left stand for, after a first digit or after none.
 abbrev pub pending : Option ℕ → List ℕ → Option (List ℕ)
@@ -27,15 +28,11 @@ first_half c low (d ∷ rest) e = ap (λ o. pair_joined o (hex_digit d) (hex_byt
 first_more : (bytes : List ℕ) (c low : ℕ) (rest : List ℕ) → hex_digit c ≡ Some low → reads_on bytes None (c ∷ rest) ≡ reads_on bytes (Some low) rest
 first_more bytes c low rest e = ap (option_map (λ more. bytes ++ more)) (first_half c low rest e)
 
-pushed : (bytes : List ℕ) (x : ℕ) (o : Option (List ℕ)) → option_map (λ more. bytes ++ more) (option_map (λ more. x ∷ more) o) ≡ option_map (λ more. (bytes ++ x ∷ []) ++ more) o
-pushed bytes x None = refl
-pushed bytes x (Some more) = ap Some (sym (append_assoc bytes (x ∷ []) more))
-
 second_more :
     (bytes : List ℕ) (high c low : ℕ) (rest : List ℕ) → hex_digit c ≡ Some low
     → reads_on bytes (Some high) (c ∷ rest) ≡ reads_on (bytes ++ (16 * high + low) ∷ []) None rest
 second_more bytes high c low rest e =
-    ap (λ o. option_map (λ more. bytes ++ more) (low_joined high o (hex_bytes rest))) e ∙ pushed bytes (16 * high + low) (hex_bytes rest)
+    ap (λ o. option_map (λ more. bytes ++ more) (low_joined high o (hex_bytes rest))) e ∙ appended bytes ((16 * high + low) ∷ []) (hex_bytes rest)
 
 no_first : (c : ℕ) (rest : List ℕ) → hex_digit c ≡ None → hex_bytes (c ∷ rest) ≡ None
 no_first c [] e = refl
@@ -44,10 +41,6 @@ no_first c (d ∷ rest) e = ap (λ o. pair_joined o (hex_digit d) (hex_bytes res
 no_digit : (bytes : List ℕ) (high : Option ℕ) (c : ℕ) (rest : List ℕ) → hex_digit c ≡ None → reads_on bytes high (c ∷ rest) ≡ None
 no_digit bytes None c rest e = ap (option_map (λ more. bytes ++ more)) (no_first c rest e)
 no_digit bytes (Some high) c rest e = ap (λ o. option_map (λ more. bytes ++ more) (low_joined high o (hex_bytes rest))) e
-
-unmapped : (bytes : List ℕ) (o : Option (List ℕ)) → option_map (λ more. bytes ++ more) o ≡ None → o ≡ None
-unmapped bytes None e = refl
-unmapped bytes (Some more) e = let z : ◌≡◌ {A = ℕ} 0 1 = cc in absurd (omega arith)
 
 pub digit_small : (c low : ℕ) → hex_digit c ≡ Some low → low < 16
 digit_small c low e = grind (arith, nat_tests)

@@ -11,11 +11,11 @@ use Rattle.cuwajimo.specs.Words.{parts_joined, all_parts}
 abbrev pub parts_on : (List ℕ → Option (List ℕ)) → List ℕ → List (List ℕ) → Option (List ℕ)
 parts_on part_of so_far words = option_map (λ more. so_far ++ more) (all_parts part_of words)
 
-appended : (so_far part : List ℕ) (o : Option (List ℕ)) → option_map (λ more. so_far ++ more) (option_map (λ more. part ++ more) o) ≡ option_map (λ more. (so_far ++ part) ++ more) o
+pub appended : (so_far part : List ℕ) (o : Option (List ℕ)) → option_map (λ more. so_far ++ more) (option_map (λ more. part ++ more) o) ≡ option_map (λ more. (so_far ++ part) ++ more) o
 appended so_far part None = refl
 appended so_far part (Some more) = ap Some (sym (append_assoc so_far part more))
 
-unmapped : (so_far : List ℕ) (o : Option (List ℕ)) → option_map (λ more. so_far ++ more) o ≡ None → o ≡ None
+pub unmapped : (so_far : List ℕ) (o : Option (List ℕ)) → option_map (λ more. so_far ++ more) o ≡ None → o ≡ None
 unmapped so_far None e = refl
 unmapped so_far (Some more) e = absurd (none-some (so_far ++ more) (sym e))
 
