@@ -8,11 +8,11 @@ use Rattle.std.proofs.lemmas.Bool.{cases_Bool, cases_eq}
 use Rattle.store.specs.declared.fault.StoreFault.{StoreFault}
 use Rattle.store.specs.declared.fault.Protection.{Protection}
 use Rattle.store.specs.declared.fault.Protection.TheVariants as protections
-use Rattle.store.specs.Blocks.{Block, Contents, sound, damaged, open_block, read_of, read_at, read_answer, buffer_of, buffer_at, read_buffer, taken, taken_of, write_of, write_at, write_answer, written, protection_at, protection_answer}
+use Rattle.store.specs.Blocks.{Block, Contents, sound, damaged, open_block, read_of, read_at, read_answer, buffer_of, buffer_at, read_buffer, taken, taken_of, write_of, write_at, write_answer, written, protection_at, protection_answer, is_open, is_open_at}
 use Rattle.store.proofs.Nth.{same_nth}
 use Rattle.store.proofs.Writes.{nth_written_same, nth_written_other, protection_taken, refused_same}
 use Rattle.cache.specs.declared.slot.Slot.{Slot}
-use Rattle.cache.specs.Caches.{slot, no_slot, place, kept, over, cached, turn_place, given_up, put_bytes, put_below, without, forgotten, or_else, Held, means, giving_up, put_at, keeping, after_read, after_write, vacant_slots, is_open, is_open_at, put_slot, same_block, WholeBytes, WholeSlot, nth_cached}
+use Rattle.cache.specs.Caches.{slot, no_slot, place, kept, over, cached, turn_place, given_up, put_bytes, put_below, without, forgotten, or_else, Held, means, giving_up, put_at, keeping, after_read, after_write, vacant_slots, put_slot, same_block, WholeBytes, WholeSlot, nth_cached}
 use Rattle.cache.proofs.SlotFacts.{first_place, first_within, first_block, first_kept, none_kept, Room, room_own, room_vacant, kept_put, kept_put_other, kept_forgotten, kept_forgotten_other, forgotten_block}
 
 -- A block that is written twice is as if the first write had not been, and the same write again changes nothing.

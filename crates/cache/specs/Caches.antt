@@ -6,7 +6,7 @@ use Rattle.std.specs.Option.{option_map}
 use Rattle.std.proofs.lemmas.Bool.{cases_Bool, eqb-true}
 use Rattle.store.specs.declared.fault.Protection.{Protection}
 use Rattle.store.specs.declared.fault.Protection.TheVariants as protections
-use Rattle.store.specs.Blocks.{Block, read_answer, read_buffer, write_answer, taken, taken_of, written, Whole, WholeOf, Sized, Lawful}
+use Rattle.store.specs.Blocks.{Block, read_answer, read_buffer, write_answer, taken, taken_of, written, is_open_at, Whole, WholeOf, Sized, Lawful}
 use Rattle.cache.specs.declared.cache.Cache.{Cache}
 use Rattle.cache.specs.declared.slot.Slot.{Slot}
 use Rattle.store.specs.Each.{each, length_each, nth_each}
@@ -15,14 +15,16 @@ use Rattle.store.specs.Each.{each, length_each, nth_each}
 abbrev pub slot : ℕ → List ℕ → Slot
 slot b bytes = record { block = Some b; bytes = bytes }
 
+-- What stands for a slot where there is none: vacant.
 abbrev pub no_slot : Slot
 no_slot = record { block = None; bytes = [] }
 
--- What a slot keeps is a whole block.
+-- A block that is kept has 256 bytes; where none is, anything may stand.
 abbrev pub WholeBytes : Option ℕ → List ℕ → Type 0
 WholeBytes None bytes = Unit {0}
 WholeBytes (Some b) bytes = length bytes ≡ 256
 
+-- A slot that keeps a block has 256 bytes of it; a vacant one may hold anything.
 abbrev pub WholeSlot : Slot → Type 0
 WholeSlot s = WholeBytes s.block s.bytes
 
@@ -55,6 +57,7 @@ abbrev pub over : Option (List ℕ) → Block → Block
 over None k = k
 over (Some bytes) k = taken bytes k
 
+-- The blocks of the store below with each kept one over its own.
 abbrev pub cached : List Block → List Slot → List Block
 cached bs slots = each (λ i. over (kept slots i)) bs
 
@@ -62,10 +65,11 @@ cached bs slots = each (λ i. over (kept slots i)) bs
 abbrev pub cached_by : {S : Type 0} → (S → List Block) → Cache S → List Block
 cached_by below c = cached (below c.below) c.slots
 
--- Which block is given up for a ninth is free. Ours is the one in the slot whose turn it is; the turn goes round.
+-- Which block is given up for a ninth is free. Ours is the one in the slot whose turn it is; the turn goes round the eight.
 abbrev pub turn_place : ℕ → ℕ
 turn_place turn = turn % 8
 
+-- The block that is given up: the one in the slot whose turn it is, or none where that slot is vacant.
 abbrev pub given_up : List Slot → ℕ → Option ℕ
 given_up slots turn = (slice_index_or slots (turn_place turn) no_slot).block
 
@@ -73,11 +77,12 @@ given_up slots turn = (slice_index_or slots (turn_place turn) no_slot).block
 abbrev pub is_ninth : List Slot → ℕ → Bool
 is_ninth slots b = not (is_some (place slots (Some b))) && not (is_some (place slots None))
 
--- A kept block is written below, changed or not.
+-- Bytes that are kept of block b are written below, changed or not; where none are, nothing is.
 abbrev pub put_bytes : List Block → ℕ → Option (List ℕ) → List Block
 put_bytes bs b None = bs
 put_bytes bs b (Some bytes) = written bs b bytes
 
+-- The blocks below after a block was given up: written with what is kept of it; where none is, as they were.
 abbrev pub put_below : List Block → List Slot → Option ℕ → List Block
 put_below bs slots None = bs
 put_below bs slots (Some b) = put_bytes bs b (kept slots b)
@@ -86,15 +91,17 @@ put_below bs slots (Some b) = put_bytes bs b (kept slots b)
 abbrev pub without : ℕ → Slot → Slot
 without b s = record { block = cond (same_block s.block (Some b)) None s.block; bytes = s.bytes }
 
+-- The slots after a block was given up: none keeps it any more.
 abbrev pub forgotten : List Slot → Option ℕ → List Slot
 forgotten slots None = slots
 forgotten slots (Some b) = map (without b) slots
 
--- The slot that a block is put in: its own, else the first vacant one, else the one whose turn it is.
+-- The first of two places that there is.
 abbrev pub or_else : Option ℕ → ℕ → ℕ
 or_else (Some i) j = i
 or_else None j = j
 
+-- The place of the slot that a block is put in: its own, else the first vacant one, else the one whose turn it is.
 abbrev pub place_for : List Slot → ℕ → ℕ → ℕ
 place_for slots turn b = or_else (place slots (Some b)) (or_else (place slots None) (turn_place turn))
 
@@ -104,6 +111,7 @@ pub record Held : Type 0 where
   pub below : List Block
   pub turn : ℕ
 
+-- What a cache holds; `blocks` says what the store below means.
 abbrev pub held : {S : Type 0} → (S → List Block) → Cache S → Held
 held blocks c = record { slots = c.slots; below = blocks c.below; turn = c.turn }
 
@@ -111,10 +119,11 @@ held blocks c = record { slots = c.slots; below = blocks c.below; turn = c.turn 
 abbrev pub means : Held → List Block
 means h = cached h.below h.slots
 
--- A block is given up: written below, and kept no more; then it is the next slot's turn.
+-- A block is given up: written below, and kept no more.
 abbrev pub without_block : Held → Option ℕ → Held
 without_block h o = record { slots = forgotten h.slots o; below = put_below h.below h.slots o; turn = h.turn }
 
+-- The slot whose turn it is gives its block up, and then it is the next slot's turn.
 abbrev pub giving_up : Held → Held
 giving_up h = record {
   slots = forgotten h.slots (given_up h.slots h.turn);
@@ -122,31 +131,27 @@ giving_up h = record {
   turn = turn_place h.turn + 1;
 }
 
--- Block b is kept with these bytes: another is given up for it only if it is a ninth.
+-- Room is made for block b: another is given up for it only if it is a ninth.
 abbrev pub with_room : Held → ℕ → Held
 with_room h b = cond (is_ninth h.slots b) (giving_up h) h
 
+-- Slot p keeps block b with these bytes.
 abbrev pub put_at : Held → ℕ → ℕ → List ℕ → Held
 put_at h p b bytes = record { slots = slice_set h.slots p (slot b bytes); below = h.below; turn = h.turn }
 
+-- Block b is kept with these bytes, after another has given way if it has to.
 abbrev pub keeping : Held → ℕ → List ℕ → Held
 keeping h b bytes = put_at (with_room h b) (place_for h.slots h.turn b) b bytes
 
--- An open block whose bytes were just read or written is kept, and nothing else changes what is kept.
-abbrev pub is_open : Protection → Bool
-is_open protections.Open = true
-is_open protections.Protected = false
-
-abbrev pub is_open_at : Option Block → Bool
-is_open_at None = false
-is_open_at (Some k) = is_open k.protection
-
+-- A read gave the bytes of a block that is open below. Only an open block is kept, once its bytes were read or written.
 abbrev pub was_read : Held → ℕ → List ℕ → Bool
 was_read h b buffer = is_open_at (slice_get h.below b) && is_ok (read_answer (means h) b buffer)
 
+-- What a cache holds after a read: the block is kept with the bytes that were read, if it is open; else nothing has changed.
 abbrev pub after_read : Held → ℕ → List ℕ → Held
 after_read h b buffer = cond (was_read h b buffer) (keeping h b (read_buffer (means h) b buffer)) h
 
+-- What a cache holds after a write: a block that took the bytes is kept with them; else nothing has changed.
 abbrev pub after_write : Held → ℕ → List ℕ → Held
 after_write h b bytes = cond (is_ok (write_answer (means h) b bytes)) (keeping h b bytes) h
 
@@ -199,6 +204,7 @@ module _ (bs : List Block) (slots : List Slot) where
     whole = λ i. subst Whole (sym (nth_cached i)) (whole_over (slice_get bs i) (kept slots i) (s.whole i));
   }
 
+-- A cache over a lawful store is one: it holds what it means once all that it keeps is below too, and the store below is settled.
 pub cache_lawful : (blocks stored : List Block) (Settled : Type 0) (slots : List Slot) → Lawful blocks stored Settled → Lawful (cached blocks slots) stored (Settled × (blocks ≡ cached blocks slots))
 cache_lawful blocks stored Settled slots l = record {
   sized = cached_sized blocks slots l.sized;

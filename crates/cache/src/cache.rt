@@ -1,5 +1,5 @@
 ghost use Rattle.std.specs.Prelude.{◌≡◌, ◌<◌, true, is_some, is_ok, if◌then◌else◌, IfSome, Some, None, slice_index_or};
-ghost use Rattle.store.specs.Blocks.{read_answer, read_buffer, write_answer, written};
+ghost use Rattle.store.specs.Blocks.{read_answer, read_buffer, write_answer, written, is_open_at};
 ghost use Rattle.std.specs.List.{slice_get};
 ghost use Rattle.cache.specs.Once.{Once};
 
@@ -133,7 +133,7 @@ impl<S: Store> Cache<S> {
 }
 
 impl<S: Store> Store for Cache<S> {
-    ghost use Rattle.cache.specs.Caches.{cached_by, cache_lawful, held, after_read, after_write, after_settle, is_open_at, KeptLate};
+    ghost use Rattle.cache.specs.Caches.{cached_by, cache_lawful, held, after_read, after_write, after_settle, KeptLate};
 
     ghost blocks = { λ s. cached_by S.Store.blocks s };
 

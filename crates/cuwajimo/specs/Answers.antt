@@ -26,6 +26,7 @@ abbrev pub met_words : HostFault → List ℕ
 met_words met =
     kind_word met.fault.store.kind ++ (codes " block " ++ (decimal met.fault.store.block ++ (codes " unit " ++ (decimal met.unit ++ (codes " address " ++ decimal met.address)))))
 
+-- A host's parameters: the unit, the address and the length that its next message goes by.
 abbrev pub parameters_words : Parameters → List ℕ
 parameters_words p = codes "unit " ++ (decimal p.unit ++ (codes " address " ++ (decimal p.address ++ (codes " length " ++ decimal p.length))))
 
@@ -90,7 +91,7 @@ told_words act (answers.Activity count) buffer = []
 abbrev pub lent_words : List ℕ → List ℕ
 lent_words buffer = codes ", buffer " ++ (decimal (length buffer) ++ (codes " " ++ hex_digits 16 (fnv buffer)))
 
--- A call that lends a buffer tells of it, unless it was not made, since the host had no ticket for it.
+-- The call was made, unless the host had no ticket for it.
 abbrev pub was_made : Answer → Bool
 was_made (answers.Refused status) = true
 was_made answers.Done = true
@@ -103,6 +104,7 @@ was_made (answers.Parameters p) = true
 was_made (answers.Locks held) = true
 was_made (answers.Activity count) = true
 
+-- A call that lends a buffer tells of it, unless it was not made.
 abbrev pub tells_buffer : HostAct → Answer → Bool
 tells_buffer act answer = lends act && was_made answer
 

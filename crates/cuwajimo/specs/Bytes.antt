@@ -10,9 +10,10 @@ repeated_at bytes place = cond (length bytes == 0) 0 (slice_index bytes (place %
 abbrev pub repeating : List ℕ → ℕ → List ℕ
 repeating bytes size = map (repeated_at bytes) (range_with_len 0 size)
 
--- Byte i of block b in pattern p is (p + 7 x b + i) mod 256, and a block has 256 bytes.
+-- Byte i of block b in pattern p is (p + 7 x b + i) mod 256.
 abbrev pub pattern_byte : ℕ → ℕ → ℕ → ℕ
 pattern_byte p b i = (p + 7 * b + i) % 256
 
+-- Block b in pattern p, from byte 0 on; a block has 256 bytes.
 abbrev pub pattern_block : ℕ → ℕ → List ℕ
 pattern_block p b = map (pattern_byte p b) (range_with_len 0 256)

@@ -7,7 +7,7 @@ use Rattle.cuwajimo.specs.declared.call.HostAct.TheVariants as host_acts
 use Rattle.cuwajimo.specs.declared.call.Call.{Call}
 use Rattle.cuwajimo.specs.declared.case.Case.{Case}
 
--- The word that a call's line begins with.
+-- The word that the line of an act for a host begins with.
 abbrev pub host_act_name : HostAct → List ℕ
 host_act_name (host_acts.Command bytes) = codes "command"
 host_act_name (host_acts.Segment filling) = codes "segment"
@@ -18,6 +18,7 @@ host_act_name host_acts.Notice = codes "notice"
 host_act_name host_acts.Fault = codes "fault"
 host_act_name host_acts.Params = codes "params"
 
+-- The word that any call's line begins with: for a host's call that of its act.
 abbrev pub act_name : Act → List ℕ
 act_name (acts.Host host act) = host_act_name act
 act_name acts.Locks = codes "locks"
@@ -35,10 +36,11 @@ is_off_act acts.Off = true
 is_off_act (acts.Blocks first count) = false
 is_off_act acts.Save = false
 
--- The calls of a case before the first `off`, and those from it on.
+-- The calls of a case before the first `off`.
 abbrev pub calls_on : Case → List Call
 calls_on case = vec_items case.on
 
+-- The calls of a case from the first `off` on.
 abbrev pub calls_off : Case → List Call
 calls_off case = vec_items case.off
 

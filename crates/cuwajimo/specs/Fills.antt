@@ -20,11 +20,12 @@ abbrev pub harmed_all : List Block → List ℕ → List Block
 harmed_all blocks [] = blocks
 harmed_all blocks (b ∷ bs) = harmed_all (harmed blocks b) bs
 
--- What one line does, and what all do, in their order.
+-- What one line does: it writes a pattern into every block, of which a protected one stays, or marks some blocks damaged.
 abbrev pub filled : Fill → List Block → List Block
 filled (Pattern p) blocks = patterned p blocks
 filled (Damage bs) blocks = harmed_all blocks (vec_items bs)
 
+-- What all lines do, in their order.
 abbrev pub filled_all : List Fill → List Block → List Block
 filled_all [] blocks = blocks
 filled_all (fill ∷ fills) blocks = filled_all fills (filled fill blocks)

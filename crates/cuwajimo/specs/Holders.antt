@@ -10,13 +10,14 @@ use Rattle.cuwajimo.specs.declared.holders.Holders.{Holders}
 use Rattle.cuwajimo.specs.declared.holders.Lock.{Lock}
 use Rattle.cuwajimo.specs.declared.holders.Lock.TheVariants as locks
 
--- A lock among those of a host; a host above 7 has none.
+-- A lock is among those of a host; where these are refused, since there is no such host, it is not.
 abbrev pub lock_among : Lock → Result Locks Status → Bool
 lock_among locks.Device (Ok held) = held.device
 lock_among locks.Device (Err status) = false
 lock_among (locks.Unit unit) (Ok held) = unit_lock held unit
 lock_among (locks.Unit unit) (Err status) = false
 
+-- The host holds the lock; a host above 7 has none.
 abbrev pub holds : Controller → Lock → ℕ → Bool
 holds controller lock host = lock_among lock (locks_of controller host)
 
@@ -40,9 +41,11 @@ held_words (unit, Some host) = codes " " ++ (decimal unit ++ (codes "=" ++ decim
 abbrev pub units_words : List (Option ℕ) → List ℕ
 units_words units = cond (list_all is_none units) (codes " none") (flat_map held_words (enumerate_from 0 units))
 
+-- The holder of the device's lock, or that there is none.
 abbrev pub device_words : Option ℕ → List ℕ
 device_words None = codes "none"
 device_words (Some host) = decimal host
 
+-- The line of `locks`: who holds the device, and then each locked unit with its holder.
 abbrev pub holders_words : Holders → List ℕ
 holders_words holders = codes "locks: device " ++ (device_words holders.device ++ (codes " units" ++ units_words holders.units))

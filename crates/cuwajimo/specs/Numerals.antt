@@ -9,6 +9,7 @@ use Rattle.std.proofs.lemmas.Str.Parse.{IsNumeralModel, numerals_by_fold}
 use Rattle.std.proofs.lemmas.Bool.{false≢true, lt-ltb, ltb-true}
 use Rattle.cuwajimo.specs.Words.{value_after, number_below}
 
+-- What is all decimal digits is the same here as for `parse`, and so is the number that they write.
 decimal_digits : IsNumeralModel (λ ds. all_ascii_digits ds ≡ true) (value_after 0)
 decimal_digits = numerals_by_fold _ (search rules) value_after (search rules)
 
@@ -46,10 +47,11 @@ module _ (k : ℕ) (word : List ℕ) where
   pub is_parsed : {E : Type 0} (r : Result ℕ E) → ParsesUnsigned k 10 word r → is_ok r ≡ is_some (number_below (2 ^ k) word)
   is_parsed r h = is_read r ∙ ap is_some (parsed r h)
 
+-- What may be missing stays the same where nothing is done to it.
 kept : {X : Type 0} (o : Option X) → option_map (λ x. x) o ≡ o
 kept None = refl
 kept (Some x) = refl
 
--- So it is of the numbers of each width.
+-- So it is of the numbers of each width: what `parse` converts a word to is the number that it writes below the width's limit, if any.
 pub read_below : (k : ℕ) (word : List ℕ) {E : Type 0} (r : Result ℕ E) → ParsesUnsigned k 10 word r → option_map (λ n. n) (result_ok r) ≡ number_below (2 ^ k) word
 read_below k word r h = kept (result_ok r) ∙ parsed k word r h

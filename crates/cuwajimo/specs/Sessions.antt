@@ -40,6 +40,7 @@ host_made w h host_acts.Notice buffer = beside buffer (by_call w h (calls.notice
 host_made w h host_acts.Fault buffer = beside buffer (by_call w h (calls.fault h))
 host_made w h host_acts.Params buffer = beside buffer (parameters_told (viewed h (host_of w.state h).parameters), w)
 
+-- The device and its tickets after a host's call, made with the buffer that the call lends.
 abbrev pub host_left : World → ℕ → HostAct → World
 host_left w h act = (host_made w h act (lent act)).world
 
@@ -57,16 +58,17 @@ abbrev pub all_left : World → List Call → World
 all_left w [] = w
 all_left w (call ∷ calls) = all_left (act_left w call.act) calls
 
--- A case served over a store of these blocks: the blocks that its device leaves at power off, after its calls before `off`. Where its
--- units make no map there is no device, and they stay.
+-- The blocks that a device over them leaves at power off, after its calls. Where the units make no map there is no device, and they stay.
 abbrev pub blocks_left : Result UnitMap Status → ℕ → List Block → List Call → List Block
 blocks_left (Ok map) number blocks calls = (at_end (all_left (at_start number map blocks) calls)).blocks
 blocks_left (Err status) number blocks calls = blocks
 
+-- With a map of its units a case is served, without one it is refused.
 abbrev pub outcome_of : Result UnitMap Status → Outcome
 outcome_of (Ok map) = Served
 outcome_of (Err status) = Refused
 
+-- A case served over a store of these blocks: by the map that its units make, or by none, the outcome and the blocks after its calls before `off`.
 pub record Serves (case : Case) (blocks : List Block) (outcome : Outcome) (after : List Block) : Type 0 where
   pub map : Result UnitMap Status
   pub made : Makes (vec_items case.plan.units) case.plan.end map

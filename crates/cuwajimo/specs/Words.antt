@@ -29,11 +29,12 @@ number_in limit (Some word) = number_below limit word
 abbrev pub hex_digit : ℕ → Option ℕ
 hex_digit c = cond (nat_le 48 c && nat_le c 57) (Some (c - 48)) (cond (nat_le 97 c && nat_le c 102) (Some (c - 87)) (cond (nat_le 65 c && nat_le c 70) (Some (c - 55)) None))
 
--- A first byte before some more, where there are both: a byte has two digits, the higher one first.
+-- A byte before some more, made of its higher digit and the lower one; none where the lower digit or the other bytes are missing.
 abbrev pub low_joined : ℕ → Option ℕ → Option (List ℕ) → Option (List ℕ)
 low_joined high None rest = None
 low_joined high (Some low) rest = option_map (λ bytes. (16 * high + low) ∷ bytes) rest
 
+-- A first byte before some more, where there are both: a byte has two digits, the higher one first.
 abbrev pub pair_joined : Option ℕ → Option ℕ → Option (List ℕ) → Option (List ℕ)
 pair_joined None low rest = None
 pair_joined (Some high) low rest = low_joined high low rest

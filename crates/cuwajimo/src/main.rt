@@ -17,8 +17,6 @@ mod run;
 mod say;
 mod script;
 mod session;
-#[cfg(test)]
-mod trials;
 mod trouble;
 mod words;
 

@@ -41,6 +41,7 @@ abbrev pub volume : Geometry → List ℕ
 volume g =
     bytes_of 3 (g.cylinders - 1) ++ ((g.heads - 1) ∷ (bytes_of 2 (g.sectors - 1) ++ (bytes_of 6 (size_of g - 1) ++ 1 ∷ 0 ∷ [])))
 
+-- A unit's table has 38 bytes: the 6 that it begins with, its header of 18, and its one record of 14.
 abbrev pub unit_table : ℕ → Geometry → List ℕ
 unit_table number g = heading 38 4 18 1 14 ++ (unit_header number ++ volume g)
 
@@ -53,6 +54,7 @@ unit_tables n (u ∷ us) = unit_table n u.geometry ++ unit_tables (suc n) us
 abbrev pub terminator : List ℕ
 terminator = heading 6 0xff 0 0 0
 
+-- The tables for the host that asks: the controller's, one of each unit in the order of their numbers, and the one that ends the list.
 abbrev pub tables : UnitMap → ℕ → List ℕ
 tables m host = controller_table m.count host ++ (unit_tables 0 (listed m) ++ terminator)
 
@@ -60,10 +62,11 @@ tables m host = controller_table m.count host ++ (unit_tables 0 (listed m) ++ te
 unfoldable pub description : UnitMap → ℕ → List ℕ
 description m host = bytes_of 2 (length (tables m host)) ++ tables m host
 
--- A buffer that is at least as long as the message takes it into its front; its other bytes stay.
+-- The buffer is at least as long as the message.
 abbrev pub fits : UnitMap → ℕ → List ℕ → Bool
 fits m host buffer = nat_le (length (description m host)) (length buffer)
 
+-- A buffer that is at least as long as the message takes it into its front, and its other bytes stay; a shorter one stays.
 abbrev pub described : UnitMap → ℕ → List ℕ → List ℕ
 described m host buffer = cond (fits m host buffer) (description m host ++ drop (length (description m host)) buffer) buffer
 

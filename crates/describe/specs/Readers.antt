@@ -10,13 +10,15 @@ use Rattle.message.specs.Operands.{number}
 abbrev pub field : ℕ → ℕ → List ℕ → ℕ
 field place n bytes = number (take n (drop place bytes))
 
--- A table begins with its size in two bytes, its type, and the size of its header.
+-- A table begins with its size, in two bytes.
 abbrev pub size_in : List ℕ → ℕ
 size_in table = field 0 2 table
 
+-- Then comes its type, in one byte.
 abbrev pub type_in : List ℕ → ℕ
 type_in table = field 2 1 table
 
+-- Then comes the size of its header, in one byte.
 abbrev pub header_in : List ℕ → ℕ
 header_in table = field 3 1 table
 
@@ -48,10 +50,11 @@ learned table = record {
   blocks = field (12 + header_in table) 6 table + 1;
 }
 
+-- What is learned of the units from a message: of each table of type 4, in their order.
 abbrev pub units_in : List ℕ → List Learned
 units_in message = map learned (filter (λ table. type_in table == 4) (tables_of message))
 
--- A table of type 3 is of the controller. Its header says, from its sixth byte on, which host asks.
+-- A table of type 3 is of the controller. The sixth byte of its header says which host asks.
 abbrev pub hosts_in : List ℕ → List ℕ
 hosts_in message = map (field 11 1) (filter (λ table. type_in table == 3) (tables_of message))
 

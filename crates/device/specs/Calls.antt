@@ -17,6 +17,7 @@ pub data Call : Type 0 where
   notice : ℕ → Call
   fault : ℕ → Call
 
+-- The host that a ticket bears.
 abbrev pub bearer : Ticket → ℕ
 bearer (tickets.Execution k) = k.host
 bearer (tickets.Report k) = k.host

@@ -21,7 +21,7 @@ pub record Described (s s' : State) (h : ℕ) (given left : List ℕ) : Type 0 w
   pub locks : (g : ℕ) → (host_of s' g).locks ≡ (host_of s g).locks
   pub faults : (g : ℕ) → (host_of s' g).fault ≡ (host_of s g).fault
 
--- DESCRIBING, from a device in state s: after any list of calls, a segment whose ticket fits an Extended Describe, with a buffer that holds the
+-- DESCRIBING, from a device in state `start`: after any list of calls, a segment whose ticket fits an Extended Describe, with a buffer that holds the
 -- description, is answered by the ticket for the report, and has described the units.
 abbrev pub DescribingFrom : State → Type 0
 DescribingFrom start =

@@ -36,6 +36,7 @@ pub record State : Type 0 where
   pub activity : ℕ
   pub blocks : List Block
 
+-- The state of a device with this controller, over a store that means these blocks.
 abbrev pub state_of : Controller → List Block → State
 state_of c blocks = record { number = c.number; map = c.map; hosts = c.hosts; mail = c.mail; activity = c.activity; blocks = blocks }
 
@@ -43,9 +44,11 @@ state_of c blocks = record { number = c.number; map = c.map; hosts = c.hosts; ma
 abbrev pub state : {S : Type 0} → (S → List Block) → Device S → State
 state blocks d = state_of d.controller (blocks d.store)
 
+-- The record of host h; where there is no such host, one that holds nothing.
 abbrev pub host_of : State → ℕ → Host
 host_of s h = host_at s.hosts h
 
+-- The mail of host h, its wait and its notice; where there is no such host, neither.
 abbrev pub mail_of : State → ℕ → Mail
 mail_of s h = mail_at s.mail h
 
@@ -55,11 +58,13 @@ pub record Fixed : Type 0 where
   pub map : UnitMap
   pub reaches : Bool
 
+-- These as they are in a state; the store's count reaches the map's stated end when it is that end or more.
 abbrev pub fixed : State → Fixed
 fixed s = record { number = s.number; map = s.map; reaches = nat_le s.map.end (length s.blocks) }
 
 -- ---- The lock check.
 
+-- The message that comes to the lock check, or none where it is refused before.
 abbrev pub message_in : Result Message Status → Option Message
 message_in (Ok m) = Some m
 message_in (Err s) = None
@@ -74,9 +79,11 @@ brings f x (clear h) = None
 brings f x (notice h) = None
 brings f x (fault h) = None
 
+-- The same for a call in a state, by the record of the host that the call names or its ticket bears.
 abbrev pub asked : State → Call → Option Message
 asked s c = brings (fixed s) (host_of s (by c)) c
 
+-- Some host other than h stands in the way of what the message wants; with no message nothing does.
 abbrev pub blocked : List Host → ℕ → Option Message → Bool
 blocked hosts h None = false
 blocked hosts h (Some m) = another (stands (wanted m)) h hosts
@@ -87,19 +94,23 @@ in_way s c = blocked s.hosts (by c) (asked s c)
 
 -- ---- What a call comes to, by its host's own record and the blocks of its own span.
 
+-- What a call comes to: its answer, its host's record after it, the blocks put from the start of its span on, and how many were tried.
 pub record Served : Type 0 where
   pub answer : Answer
   pub host : Host
   pub put : List Block
   pub tried : ℕ
 
+-- A call that only answers, and leaves its host's record as it is given here: no block is put and none tried.
 abbrev pub says : Answer → Host → Served
 says a x = record { answer = a; host = x; put = []; tried = 0 }
 
+-- The ticket for a phase that bears device n's number and host h: for execution an execution ticket, for the report a report ticket.
 abbrev pub ticket_for : ℕ → ℕ → Phase → Ticket
 ticket_for n h phases.Execution = tickets.Execution (record { device = n; host = h })
 ticket_for n h phases.Report = tickets.Report (record { device = n; host = h })
 
+-- The status of a refused message: the one that keeps it from the lock check, or 4/3 where it comes there.
 abbrev pub status_in : Result Message Status → Status
 status_in (Ok m) = statuses.ResourceUnavailable
 status_in (Err s) = s
@@ -113,19 +124,19 @@ abbrev pub commanded : Fixed → Option Message → Host → ℕ → List ℕ �
 commanded f (Some m) x h bytes = says (accepted (ticket_for f.number h (opened f.map m).phase)) (accepted_by f.map m x)
 commanded f None x h bytes = says (refusal (first_status f x h bytes)) (refused (first_status f x h bytes) x)
 
--- A ticket fits when it bears this device's number, and its host has an open transaction in the ticket's phase.
+-- Two phases are the same.
 abbrev pub is_phase : Phase → Phase → Bool
 is_phase phases.Execution phases.Execution = true
 is_phase phases.Execution phases.Report = false
 is_phase phases.Report phases.Execution = false
 is_phase phases.Report phases.Report = true
 
--- The transaction that a ticket fits.
+-- The transaction that a ticket fits: the ticket bears this device's number, and its host has an open transaction in the ticket's phase.
 abbrev pub fitting : ℕ → ℕ → Phase → Option Transaction → Option Transaction
 fitting number device phase None = None
 fitting number device phase (Some t) = cond (device == number && is_phase phase t.phase) (Some t) None
 
--- A segment: the ticket fits, else 1/6; then the buffer holds the segment, else 128/5.
+-- A segment that is carried out exchanges its ticket for the next; the buffer, the blocks and how its host goes on are those of `m`.
 abbrev pub segment_moved : Fixed → Host → Transaction → ℕ → Moved → Served
 segment_moved f x t h m = record {
   answer = moved (ticket_for f.number h (advanced t m.progress).phase) m.buffer;
@@ -134,10 +145,12 @@ segment_moved f x t h m = record {
   tried = m.progress.tried;
 }
 
+-- The transaction that a ticket fits, if the blocks that it has left do not pass its unit's end; otherwise none.
 abbrev pub executable : UnitMap → Option Transaction → Option Transaction
 executable map None = None
 executable map (Some t) = cond (lies_in map t) (Some t) None
 
+-- A segment: the ticket fits, and what is left lies in the unit, else 1/6; then the buffer holds the segment, else 128/5.
 abbrev pub segmented : Fixed → Option Transaction → Host → List (Option Block) → ExecutionTicket → List ℕ → Served
 segmented f None x os k buffer = says (returned statuses.MessageSequence (tickets.Execution k) buffer) x
 segmented f (Some t) x os k buffer =
@@ -153,15 +166,17 @@ reported_on (Some t) x k buffer =
     (says (reported (report_bytes t.outcome ++ drop 13 buffer)) (ended x))
     (says (returned statuses.BadBuffer (tickets.Report k) buffer) x)
 
+-- The device's number that a ticket bears.
 abbrev pub number_on : Ticket → ℕ
 number_on (tickets.Execution k) = k.device
 number_on (tickets.Report k) = k.device
 
+-- The phase that a ticket is for, by its type.
 abbrev pub phase_on : Ticket → Phase
 phase_on (tickets.Execution k) = phases.Execution
 phase_on (tickets.Report k) = phases.Report
 
--- A cancel ends the transaction; blocks that were moved stay.
+-- A cancel: the ticket fits, else 1/6. It ends the transaction; blocks that were moved stay.
 abbrev pub cancelled : Option Transaction → Host → Ticket → Served
 cancelled None x k = says (returned statuses.MessageSequence k []) x
 cancelled (Some t) x k = says done (ended x)
@@ -170,9 +185,11 @@ cancelled (Some t) x k = says done (ended x)
 abbrev pub cleared_by : ℕ → Host → Served
 cleared_by h x = cond (nat_lt h 8) (cond (is_some x.transaction) (says (refusal statuses.MessageSequence) x) (says done cleared)) (says (refusal statuses.BadHost) x)
 
+-- A notice call: a host's number, else 128/4; it tells the host's notice, or none. The host's record stays.
 abbrev pub notice_told : ℕ → Mail → Host → Served
 notice_told h m x = cond (nat_lt h 8) (says (noticed m.notice) x) (says (refusal statuses.BadHost) x)
 
+-- A fault call: a host's number, else 128/4; it tells the host's fault, or none. The host's record stays, and its fault with it.
 abbrev pub fault_told : ℕ → Host → Served
 fault_told h x = cond (nat_lt h 8) (says (faulted x.fault) x) (says (refusal statuses.BadHost) x)
 
@@ -191,26 +208,31 @@ abbrev pub serve : Bool → Fixed → Option Message → Host → Mail → List 
 serve true f o x m os c = says (refusal statuses.ResourceUnavailable) x
 serve false f o x m os c = does f o x m os c
 
+-- The block of the store at which the next segment of host h's open transaction begins; 0 where it has none.
 abbrev pub start : State → ℕ → ℕ
 start s h = start_of s.map (host_of s h).transaction
 
+-- How many blocks that segment has, the next 32 or the rest; 0 where the host has no open transaction.
 abbrev pub reach : State → ℕ → ℕ
 reach s h = reach_of (host_of s h).transaction
 
+-- What a call comes to in a state, by its host's record and mail, its span, and whether something stands in its way.
 abbrev pub served : State → Call → Served
 served s c =
     serve (in_way s c) (fixed s) (asked s c) (host_of s (by c)) (mail_of s (by c)) (span s.blocks (start s (by c)) (reach s (by c))) c
 
 -- ---- The mail.
 
--- A refused message is waited for, in place of an earlier one; a clear drops both; the notice call removes the notice.
+-- A message refused at the lock check is waited for, in place of an earlier one, and the notice stays; without a message the mail stays.
 abbrev pub waiting : Option Message → Mail → Mail
 waiting None m = m
 waiting (Some w) m = record { wait = Some (wanted w); notice = m.notice }
 
+-- A clear drops wait and notice; with an open transaction it is refused, and both stay.
 abbrev pub dropped : Host → Mail → Mail
 dropped x m = cond (is_some x.transaction) m silent
 
+-- The host's mail after a call: 4/3 makes a wait, a clear empties it unless refused, the notice call removes the notice, all else leaves it.
 abbrev pub posted : Bool → Option Message → Host → Call → Mail → Mail
 posted true o x c m = waiting o m
 posted false o x (command h bytes) m = m
@@ -240,9 +262,11 @@ with_host c h k = with_waits (record { number = c.number; map = c.map; hosts = s
 abbrev pub viewed : {X : Type 0} → ℕ → X → Result X Status
 viewed h x = cond (nat_lt h 8) (Ok x) (Err statuses.BadHost)
 
+-- The view of host h's parameters, or 128/4 where h is above 7.
 abbrev pub parameters_of : Controller → ℕ → Result Parameters Status
 parameters_of c h = viewed h (host_at c.hosts h).parameters
 
+-- The view of host h's locks, or 128/4 where h is above 7.
 abbrev pub locks_of : Controller → ℕ → Result Locks Status
 locks_of c h = viewed h (host_at c.hosts h).locks
 
@@ -258,6 +282,7 @@ abbrev pub counted : ℕ → ℕ → ℕ
 counted n zero = n
 counted n (suc more) = min (2 ^ 64 - 1) (n + suc more)
 
+-- The controller after n blocks were tried: its activity counts them, and all else is as it was.
 abbrev pub with_activity : Controller → ℕ → Controller
 with_activity c n = record { number = c.number; map = c.map; hosts = c.hosts; mail = c.mail; activity = counted c.activity n }
 
@@ -266,6 +291,7 @@ abbrev pub gone_on : Controller → ℕ → Known → Transaction → Progress �
 gone_on c h k t p =
     (ticket_for c.number h (phase_after t), with_host (with_activity c p.tried) h (record { host = moved_by t p k.host; mail = k.mail }))
 
+-- The state after a call that comes to `d`: its host's record and mail in place, every wait judged, tried blocks counted, put blocks in the store.
 abbrev pub left_by : State → Call → Served → State
 left_by s c d = record {
   number = s.number;
@@ -280,12 +306,15 @@ left_by s c d = record {
 abbrev pub after : State → Call → Answer × State
 after s c = ((served s c).answer, left_by s c (served s c))
 
+-- What a call answers.
 unfoldable pub answer : State → Call → Answer
 answer s c = (after s c).0
 
+-- The state that a call leaves.
 unfoldable pub next : State → Call → State
 next s c = (after s c).1
 
+-- The state after the device has taken a list of calls, one after another; with no call it is as before.
 abbrev pub run : State → List Call → State
 run s [] = s
 run s (c ∷ cs) = run (next s c) cs

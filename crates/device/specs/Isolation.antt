@@ -32,7 +32,7 @@ Guards map x b = (u : ℕ) × In map u b × HasLocked x u
 abbrev pub Holds : Host → Type 0
 Holds x = (x.locks.device ≡ true) ⊎ ((u : ℕ) × (locked x u ≡ true))
 
--- A message deletes a lock that its host holds.
+-- A command, with unit u in effect, deletes a lock that its host holds: Delete Device Lock the device's, Delete Unit Lock unit u's.
 abbrev pub DeletesBy : Option Command → ℕ → Host → Type 0
 DeletesBy None u x = ⊥
 DeletesBy (Some commands.Read) u x = ⊥
@@ -44,6 +44,7 @@ DeletesBy (Some commands.DeleteDeviceLock) u x = x.locks.device ≡ true
 DeletesBy (Some commands.SetUnitLock) u x = ⊥
 DeletesBy (Some commands.DeleteUnitLock) u x = locked x u ≡ true
 
+-- A message deletes a lock that its host holds; with no message none is deleted.
 abbrev pub Deletes : Option Message → Host → Type 0
 Deletes None x = ⊥
 Deletes (Some m) x = DeletesBy m.command m.parameters.unit x
@@ -58,18 +59,19 @@ GivesUp s (clear h) = (answer s (clear h) ≡ done) × Holds (host_of s h)
 GivesUp s (notice h) = ⊥
 GivesUp s (fault h) = ⊥
 
--- What a message asks for at the lock check is on a unit that its host has locked, or on none; and it is not the device's lock.
+-- What a message asks for at the lock check is on a unit whose own lock its host holds, or on none; and it is not the device's lock.
 abbrev pub OwnWant : Host → Want → Type 0
 OwnWant x wants.Pass = Unit {0}
 OwnWant x wants.Device = ⊥
 OwnWant x (wants.Lock u) = locked x u ≡ true
 OwnWant x (wants.Unit u) = locked x u ≡ true
 
+-- So it is with the message that a call brings to the lock check, or the call brings none.
 abbrev pub Own : Host → Option Message → Type 0
 Own x None = Unit {0}
 Own x (Some m) = OwnWant x (wanted m)
 
--- Its open transaction, if on a unit, is on one that it has locked.
+-- Its open transaction, if on a unit, is on one whose own lock it holds.
 abbrev pub AtHome : Host → Type 0
 AtHome x = (u : ℕ) → on x u ≡ true → locked x u ≡ true
 
@@ -78,9 +80,11 @@ pub record KeepsAt (s : State) (h : ℕ) (c : Call) : Type 0 where
   pub own : ((host_of s h).locks.device ≡ true) ⊎ Own (host_of s h) (asked s c)
   pub held : GivesUp s c → ⊥
 
+-- The call is host h's: it names that host, or its ticket bears it.
 abbrev pub by_host : ℕ → Call → Bool
 by_host h c = by c == h
 
+-- The call is the others': it is not host h's.
 abbrev pub by_others : ℕ → Call → Bool
 by_others h c = not (by c == h)
 
@@ -100,6 +104,7 @@ abbrev pub answers : (Call → Bool) → State → List Call → List Answer
 answers p s [] = []
 answers p s (c ∷ cs) = cond (p c) (answer s c ∷ answers p (next s c) cs) (answers p (next s c) cs)
 
+-- The call is a notice call.
 abbrev pub is_notice : Call → Bool
 is_notice (command h bytes) = false
 is_notice (segment k buffer) = false
@@ -109,6 +114,7 @@ is_notice (clear h) = false
 is_notice (notice h) = true
 is_notice (fault h) = false
 
+-- The call is host h's, and is no notice call.
 abbrev pub by_host_but_notices : ℕ → Call → Bool
 by_host_but_notices h c = by_host h c && not (is_notice c)
 
@@ -117,14 +123,14 @@ pub record Isolated (h : ℕ) (s : State) (f g : List Call) : Type 0 where
   -- each of its calls has the same answer and leaves the same buffer, the notice call only under the device's lock
   pub answered : answers (by_host_but_notices h) s f ≡ answers (by_host_but_notices h) s g
   pub noticed : (host_of s h).locks.device ≡ true → answers (by_host h) s f ≡ answers (by_host h) s g
-  -- the blocks of its locked units, its parameters and its open transaction end equal
+  -- the blocks of its locked units end equal, and so does all that is kept of it: its parameters, its locks, its open transaction and its fault
   pub its_blocks : (b : ℕ) → Guards s.map (host_of s h) b → slice_get (run s f).blocks b ≡ slice_get (run s g).blocks b
   pub its_record : host_of (run s f) h ≡ host_of (run s g) h
   -- every other block ends as the others' calls alone would leave it
   pub outside : (b : ℕ) → (Guards s.map (host_of s h) b → ⊥) → slice_get (run s f).blocks b ≡ slice_get (run s (filter (by_others h) f)).blocks b
   pub outside_too : (b : ℕ) → (Guards s.map (host_of s h) b → ⊥) → slice_get (run s g).blocks b ≡ slice_get (run s (filter (by_others h) g)).blocks b
 
--- ISOLATION, from a device in state s: after any list of calls, if a host then holds the device's lock or some unit's lock, take any two
+-- ISOLATION, from a device in state `start`: after any list of calls, if a host then holds the device's lock or some unit's lock, take any two
 -- continuations in which its own calls are the same in the same order, and in both of which it gives up no lock and, lacking the device's lock,
 -- keeps to its units. Then it is isolated in them.
 abbrev pub IsolationFrom : State → Type 0

@@ -26,22 +26,24 @@ pub record Exclusive (s : State) : Type 0 where
   pub one_locker : (g k u : ℕ) → locked (host_of s g) u ≡ true → locked (host_of s k) u ≡ true → g ≡ k
   pub unit_alone : (g k u : ℕ) → locked (host_of s g) u ≡ true → k ≢ g → on (host_of s k) u ≡ false
 
--- EXCLUSION, from a device in state s: it holds after any list of calls.
+-- EXCLUSION, from a device in state `start`: it holds after any list of calls.
 abbrev pub ExclusionFrom : State → Type 0
 ExclusionFrom start = (calls : List Call) → Exclusive (run start calls)
 
+-- Exclusion holds for any device number, any unit map and any blocks, from power on.
 abbrev pub Exclusion : Type 0
 Exclusion = (number : ℕ) (map : UnitMap) (blocks : List Block) → ExclusionFrom (power_on number map blocks)
 
 -- ---- Waits.
 
--- WAITS, from a device in state s: after any list of calls, a host that still waits has something in its way. So no wait outlives its cause.
+-- WAITS, from a device in state `start`: after any list of calls, a host that still waits has something in its way. So no wait outlives its cause.
 abbrev pub WaitsFrom : State → Type 0
 WaitsFrom start =
     (calls : List Call) (h : ℕ) (w : Want) →
     (mail_of (run start calls) h).wait ≡ Some w →
     another (stands w) h (run start calls).hosts ≡ true
 
+-- The law of waits holds for any device number, any unit map and any blocks, from power on.
 abbrev pub Waits : Type 0
 Waits = (number : ℕ) (map : UnitMap) (blocks : List Block) → WaitsFrom (power_on number map blocks)
 
@@ -58,7 +60,7 @@ pub record SideBySide (h : ℕ) (s : State) (f mine theirs : List Call) : Type 0
   pub their_records : (g : ℕ) → g ≢ h → host_of (run s f) g ≡ host_of (run s theirs) g
   pub their_blocks : (b : ℕ) → (Guards s.map (host_of s h) b → ⊥) → slice_get (run s f).blocks b ≡ slice_get (run s theirs).blocks b
 
--- APARTNESS, from a device in state s: after any list of calls, if a host then holds the device's lock or some unit's lock, take any continuation
+-- APARTNESS, from a device in state `start`: after any list of calls, if a host then holds the device's lock or some unit's lock, take any continuation
 -- of which its own calls, made alone, give up no lock and, lacking the device's lock, keep to its units. Then the continuation is its own calls
 -- and the others' calls, side by side.
 abbrev pub ApartnessFrom : State → Type 0
@@ -71,5 +73,6 @@ ApartnessFrom start =
     Keeps h s mine →
     SideBySide h s f mine theirs
 
+-- Apartness holds for any device number, any unit map and any blocks, from power on.
 abbrev pub Apartness : Type 0
 Apartness = (number : ℕ) (map : UnitMap) (blocks : List Block) → ApartnessFrom (power_on number map blocks)

@@ -8,7 +8,7 @@ use Rattle.device.specs.declared.ticket.Ticket.TheVariants as tickets
 use Rattle.device.specs.Calls.{Call, command, segment, report, cancel, clear, notice, fault, by, Answer, accepted, moved, reported, done, noticed, faulted, refusal, returned}
 use Rattle.device.specs.Device.{State, host_of, answer, next, run}
 
--- The ticket and the buffer that a call is given.
+-- The ticket that a call is given, if it is given one.
 abbrev pub ticket_given : Call → Option Ticket
 ticket_given (command h bytes) = None
 ticket_given (segment k buffer) = Some (tickets.Execution k)
@@ -18,6 +18,7 @@ ticket_given (clear h) = None
 ticket_given (notice h) = None
 ticket_given (fault h) = None
 
+-- The buffer that a call is given, with its bytes; where it is given none, no bytes.
 abbrev pub buffer_given : Call → List ℕ
 buffer_given (command h bytes) = []
 buffer_given (segment k buffer) = buffer
@@ -45,6 +46,7 @@ pub record HandedBack (s s' : State) (c : Call) (ticket : Ticket) (buffer : List
   pub blocks : s'.blocks ≡ s.blocks
   pub hosts : (g : ℕ) → host_of s' g ≡ host_of s g
 
+-- What a call that answers so leaves: a refused one what is said above of its kind; of any other nothing is said.
 abbrev pub Leaves : State → Call → Answer → Type 0
 Leaves s c (accepted k) = Unit {0}
 Leaves s c (moved k buffer) = Unit {0}
@@ -55,6 +57,6 @@ Leaves s c (faulted f) = Unit {0}
 Leaves s c (refusal status) = Refused s (next s c) (by c) status
 Leaves s c (returned status ticket buffer) = HandedBack s (next s c) c ticket buffer
 
--- REFUSALS, from a device in state s: after any list of calls, a call that is refused leaves what is said above.
+-- REFUSALS, from a device in state `start`: after any list of calls, a call that is refused leaves what is said above.
 abbrev pub RefusalsFrom : State → Type 0
 RefusalsFrom start = (calls : List Call) (c : Call) → Leaves (run start calls) c (answer (run start calls) c)

@@ -1,4 +1,4 @@
--- A run that meets what the isolation theorem asks for: host 0 has unit 0 locked and writes there, host 1 writes to unit 1 and asks twice for unit 0.
+-- A run that meets what the isolation theorem asks for: host 0 has unit 0 locked and writes there, host 1 writes to unit 1 and asks twice for unit 0, refused with 1/6 and with 4/3.
 use Rattle.std.specs.Prelude.{◌≡◌, ℕ, ◌+◌, List, [], ◌∷◌, replicate, Some, filter, refl}
 use Rattle.std.proofs.Common.{lit≤}
 use Rattle.std.specs.List.{slice_get}
@@ -10,10 +10,11 @@ use Rattle.device.specs.Calls.{Call, command, segment, report, clear}
 use Rattle.device.specs.Device.{State, host_of, run, power_on}
 use Rattle.device.specs.Isolation.{Holds, Keeps, by_host}
 
--- Two units of four blocks each.
+-- A unit of four blocks, from this block of the store on.
 abbrev pub unit_from : ℕ → DiscUnit
 unit_from first = record { first = first; geometry = record { cylinders = 1; heads = 2; sectors = 2 } }
 
+-- Two units of four blocks each: unit 0 from block 0 on, and unit 1 from block 4 on. The map's stated end is 8.
 abbrev pub two_units : UnitMap
 two_units = record {
   units = padded (unit_from 0 ∷ unit_from 4 ∷ []);
@@ -28,36 +29,41 @@ two_units = record {
   within = refl;
 }
 
--- Eight blocks of zeros.
+-- An open block that is sound, with 256 bytes, each of them this byte.
 abbrev pub filled_with : ℕ → Block
 filled_with byte = open_block (replicate 256 byte)
 
--- Host h's calls, on device 5: a lock of unit u, a write of one block at address 1 of it, its segment, a read of the whole unit, and a report.
+-- A command of host h: unit u in effect, and its lock set.
 abbrev pub lock_unit : ℕ → ℕ → Call
 lock_unit h u = command h ((0x20 + u) ∷ 0x73 ∷ [])
 
+-- A command of host h: unit u in effect, and a write of one block at address 1 of it.
 abbrev pub write_one : ℕ → ℕ → Call
 write_one h u = command h ((0x20 + u) ∷ 0x10 ∷ 0 ∷ 0 ∷ 0 ∷ 0 ∷ 0 ∷ 1 ∷ 0x18 ∷ 0 ∷ 0 ∷ 1 ∷ 0 ∷ 0x02 ∷ [])
 
+-- A segment of host h, on an execution ticket of device 5: a buffer of 256 bytes, each of them this byte.
 abbrev pub send : ℕ → ℕ → Call
 send h byte = segment (record { device = 5; host = h }) (replicate 256 byte)
 
+-- A command of host h: unit u in effect, and a read of the length that the host has, which after a clear is the whole unit.
 abbrev pub read_unit : ℕ → ℕ → Call
 read_unit h u = command h ((0x20 + u) ∷ 0x00 ∷ [])
 
+-- A report of host h, on a report ticket of device 5, with a buffer of 13 zeros.
 abbrev pub ask_report : ℕ → Call
 ask_report h = report (record { device = 5; host = h }) (replicate 13 0)
 
--- Host 0 has locked unit 0.
+-- Host 0 has locked unit 0, of device 5 over eight blocks of zeros; it and host 1 have cleared, and its report is taken.
 unfoldable pub locked_state : State
 locked_state =
     run (power_on 5 two_units (replicate 8 (filled_with 0))) (clear 0 ∷ clear 1 ∷ lock_unit 0 0 ∷ ask_report 0 ∷ [])
 
--- It writes there; in the first continuation host 1's calls fall between its own, in the second it is alone.
+-- Host 0 writes there; in the first continuation host 1's calls fall between its own.
 unfoldable pub among_others : List Call
 among_others =
     write_one 0 0 ∷ write_one 1 1 ∷ send 0 7 ∷ read_unit 1 0 ∷ send 1 9 ∷ ask_report 1 ∷ read_unit 1 0 ∷ ask_report 0 ∷ []
 
+-- In the second continuation host 0 makes the same calls alone.
 unfoldable pub by_itself : List Call
 by_itself = write_one 0 0 ∷ send 0 7 ∷ ask_report 0 ∷ []
 

@@ -13,13 +13,15 @@ use Rattle.device.specs.Device.{State, host_of, run, power_on, phase_on}
 use Rattle.device.specs.Isolation.{answers}
 use Rattle.device.specs.Sample.{filled_with, lock_unit, read_unit, ask_report}
 
--- Unit 0 has 4 × 2 × 5 blocks from block 0 on, unit 1 has 3 × 1 × 8 from block 40 on.
+-- Unit 0 has 4 × 2 × 5 blocks, from block 0 on.
 abbrev pub unit_0 : DiscUnit
 unit_0 = record { first = 0; geometry = record { cylinders = 4; heads = 2; sectors = 5 } }
 
+-- Unit 1 has 3 × 1 × 8 blocks, from block 40 on.
 abbrev pub unit_1 : DiscUnit
 unit_1 = record { first = 40; geometry = record { cylinders = 3; heads = 1; sectors = 8 } }
 
+-- The map of these two units. Its stated end is 64.
 abbrev pub small_map : UnitMap
 small_map = record {
   units = padded (unit_0 ∷ unit_1 ∷ []);
@@ -47,6 +49,7 @@ pub data Seen : Type 0 where
   refuses : Status → Seen
   answers_else : Seen
 
+-- An answer as it is seen: a refusal by its status alone; a call that is done, a notice and a fault are not told apart.
 abbrev pub seen : Answer → Seen
 seen (accepted k) = accepts (phase_on k)
 seen (moved k buffer) = moves (phase_on k) (length buffer)
@@ -57,6 +60,7 @@ seen (faulted f) = answers_else
 seen (refusal s) = refuses s
 seen (returned s k buffer) = refuses s
 
+-- What is seen of each answer of a list, in order.
 abbrev pub all_seen : List Answer → List Seen
 all_seen [] = []
 all_seen (a ∷ more) = seen a ∷ all_seen more
@@ -72,13 +76,15 @@ pub record Row : Type 0 where
 abbrev pub move : ℕ → Call
 move size = segment (record { device = 5; host = 0 }) (replicate size 0)
 
--- Reports: all is well, and 8/5.
+-- A report without a status: all is well.
 abbrev pub fine : Seen
 fine = reports (replicate 13 0)
 
+-- A report of 8/5.
 abbrev pub end_of_volume : Seen
 end_of_volume = reports (1 ∷ 8 ∷ 5 ∷ replicate 10 0)
 
+-- The eleven rows; what each shows stands above it.
 unfoldable pub table : List Row
 table =
     -- unit 0, vector 2, 1, 3: address 28
@@ -120,11 +126,12 @@ table =
     ∷ record { calls = lock_unit 0 1 ∷ ask_report 0 ∷ read_unit 1 1 ∷ []; sees = accepts phases.Report ∷ fine ∷ refuses statuses.ResourceUnavailable ∷ []; host = 1; address = 0 }
     ∷ []
 
--- What the rules give for a row, and what the row says.
+-- What the rules give for each row: what is seen of the answers to its calls, and its host's target address after them.
 abbrev pub given : List Row → List (List Seen × ℕ)
 given [] = []
 given (r ∷ rows) = (all_seen (answers (λ _. true) small_state r.calls), (host_of (run small_state r.calls) r.host).parameters.address) ∷ given rows
 
+-- What each row says of the same.
 abbrev pub stated : List Row → List (List Seen × ℕ)
 stated [] = []
 stated (r ∷ rows) = (r.sees, r.address) ∷ stated rows

@@ -34,7 +34,7 @@ buffer_in (returned s k buffer) = buffer
 
 -- ---- No segment is refused but for its ticket or its buffer.
 
--- MOVING, from a device in state s: after any list of calls, a segment whose ticket fits an open transaction, with a buffer that holds it, is moved.
+-- MOVING, from a device in state `start`: after any list of calls, a segment whose ticket fits an open transaction, with a buffer that holds it, is moved.
 abbrev pub MovingFrom : State → Type 0
 MovingFrom start =
     (calls : List Call) (k : ExecutionTicket) (buffer : List ℕ) (t : Transaction) →
@@ -60,6 +60,7 @@ abbrev pub left_in : Option Transaction → ℕ
 left_in None = 0
 left_in (Some t) = t.left
 
+-- How many blocks the open transaction of host h has left to move; 0 where it has none.
 abbrev pub left_of : State → ℕ → ℕ
 left_of s h = left_in (host_of s h).transaction
 
@@ -67,12 +68,12 @@ left_of s h = left_in (host_of s h).transaction
 abbrev pub moved_count : State → Call → ℕ
 moved_count s c = left_of s (by c) - left_of (next s c) (by c)
 
--- The bytes of the blocks of all segments, in order: of each buffer 256 bytes for each block, from its front. As the buffers are given:
+-- The bytes of the blocks of all segments, in order, as the buffers are given: of each buffer 256 bytes for each block, from its front.
 abbrev pub all_given : State → ExecutionTicket → List (List ℕ) → List ℕ
 all_given s k [] = []
 all_given s k (buffer ∷ more) = take (256 * moved_count s (segment k buffer)) buffer ++ all_given (next s (segment k buffer)) k more
 
--- As they are left:
+-- The bytes at the same places, as the buffers are left.
 abbrev pub all_left : State → ExecutionTicket → List (List ℕ) → List ℕ
 all_left s k [] = []
 all_left s k (buffer ∷ more) =
@@ -83,6 +84,7 @@ abbrev pub outcome_in : Option Transaction → Option Failure
 outcome_in None = None
 outcome_in (Some t) = t.outcome
 
+-- What there is to report so far of the open transaction of host h; nothing where it has none.
 abbrev pub outcome_of : State → ℕ → Option Failure
 outcome_of s h = outcome_in (host_of s h).transaction
 
@@ -108,7 +110,7 @@ pub record Transferred (s s' : State) (h : ℕ) (t : Transaction) (given left : 
   pub however_cut : ComesTo s s' h t left (at_once s t given)
   pub block_by_block : Moves t (start_of s.map (Some t)) t.left s.blocks s'.blocks given left (outcome_of s' h)
 
--- TRANSFERS, from a device in state s: after any list of calls, take any segments of a host's open transaction of which none is refused and
+-- TRANSFERS, from a device in state `start`: after any list of calls, take any segments of a host's open transaction of which none is refused and
 -- after which no block is left to move. Then they are a whole transfer.
 abbrev pub TransfersFrom : State → Type 0
 TransfersFrom start =

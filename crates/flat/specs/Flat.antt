@@ -13,10 +13,11 @@ use Rattle.image.specs.Images.{block_of, blocks_by, block_limit, unless_refused}
 abbrev pub marked : List ℕ → ℕ → Bool
 marked damage b = slice_index damage (b / 8) / 2 ^ (b % 8) % 2 == 1
 
--- The map with the bit of block b set, and with it cleared; every other bit stays.
+-- The map with the bit of block b set; every other bit stays.
 abbrev pub with_mark : List ℕ → ℕ → List ℕ
 with_mark damage b = slice_set damage (b / 8) (bit_or (slice_index damage (b / 8)) (2 ^ (b % 8)))
 
+-- The map with the bit of block b cleared; every other bit stays.
 abbrev pub without_mark : List ℕ → ℕ → List ℕ
 without_mark damage b = slice_set damage (b / 8) (bit_and (slice_index damage (b / 8)) (255 - 2 ^ (b % 8)))
 
@@ -36,6 +37,7 @@ flat_size bytes damage = unwrap_or (flat_count bytes damage) 0
 abbrev pub flat_block : List ℕ → List ℕ → Protection → ℕ → Block
 flat_block bytes damage protection b = block_of (marked damage b) (part bytes (256 * b) 256) protection
 
+-- All blocks of memory and map, as many as their lengths make, each with the image's protection.
 abbrev pub flat_blocks : List ℕ → List ℕ → Protection → List Block
 flat_blocks bytes damage protection = blocks_by (flat_size (length bytes) (length damage)) (flat_block bytes damage protection)
 

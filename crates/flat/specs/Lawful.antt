@@ -11,15 +11,18 @@ use Rattle.image.specs.Images.{block_limit}
 use Rattle.image.specs.Lawful.{length_part, lawful_numbered}
 use Rattle.flat.specs.Flat.{flat_fits, flat_size, flat_blocks, marked}
 
+-- An image has no more blocks than the limit.
 few_flat : (n m : ℕ) → flat_size n m ≤ block_limit
 few_flat n m =
     cond_both (flat_fits n m) (Some (n / 256)) None (λ o. unwrap_or o 0 ≤ block_limit)
     (λ e. leb-true (n / 256) block_limit (and_parts (nat_le (n / 256) block_limit) (m == (n / 256 + 7) / 8) (and_parts (n % 256 == 0) (nat_le (n / 256) block_limit && m == (n / 256 + 7) / 8) e).1).0)
     (λ _. omega arith)
 
+-- Its blocks lie in its memory.
 inside_flat : (n m : ℕ) → 256 * flat_size n m ≤ n
 inside_flat n m = cond_both (flat_fits n m) (Some (n / 256)) None (λ o. 256 * unwrap_or o 0 ≤ n) (λ _. omega arith) (λ _. omega arith)
 
+-- So its blocks are few enough and whole, and what it holds is what it means.
 pub flat_lawful : (bytes damage : List ℕ) (p : Protection) → Lawful (flat_blocks bytes damage p) (flat_blocks bytes damage p) (Unit {0})
 flat_lawful bytes damage p =
     lawful_numbered (flat_size (length bytes) (length damage)) (marked damage) (λ i. part bytes (256 * i) 256) p (few_flat (length bytes) (length damage))

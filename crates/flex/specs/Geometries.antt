@@ -3,22 +3,22 @@ use Rattle.std.specs.Prelude.{◌≡◌, ℕ, ◌+◌, ◌*◌, ◌/◌, ◌%◌
 use Rattle.flex.specs.declared.vector.Vector.{Vector}
 use Rattle.flex.specs.declared.geometry.Geometry.{Geometry}
 
--- the number of blocks: cylinders times heads times sectors
+-- The number of blocks: cylinders times heads times sectors.
 abbrev pub size_of : Geometry → ℕ
 size_of g = g.cylinders * g.heads * g.sectors
 
--- the vector of an address: sectors count fastest, then heads, then cylinders; none where the address is not below the size
+-- The vector of an address: sectors count fastest, then heads, then cylinders; none where the address is not below the size.
 abbrev pub vector_at : Geometry → ℕ → Option Vector
 vector_at g address =
     cond (nat_lt address (size_of g))
     (Some (record { cylinder = address / g.sectors / g.heads; head = address / g.sectors % g.heads; sector = address % g.sectors }))
     None
 
--- cylinder c, head d and sector s are at address (c * D + d) * S + s, where a cylinder has D heads and a track S sectors
+-- Cylinder c, head d and sector s are at address (c * D + d) * S + s, where a cylinder has D heads and a track S sectors.
 abbrev pub place_of : Geometry → Vector → ℕ
 place_of g v = (v.cylinder * g.heads + v.head) * g.sectors + v.sector
 
--- the address of a vector; none where the cylinder, the head or the sector is not below its count
+-- The address of a vector; none where the cylinder, the head or the sector is not below its count.
 abbrev pub address_at : Geometry → Vector → Option ℕ
 address_at g v =
     cond (nat_lt v.cylinder g.cylinders && (nat_lt v.head g.heads && nat_lt v.sector g.sectors))
@@ -31,13 +31,13 @@ pub record Within (g : Geometry) (v : Vector) : Type 0 where
   pub head : v.head < g.heads
   pub sector : v.sector < g.sectors
 
--- a vector and an address name one place of a unit when the vector is within, the address below the size, and the address is the vector's place:
+-- A vector and an address name one place of a unit when the vector is within, the address below the size, and the address is the vector's place:
 pub record Names (g : Geometry) (v : Vector) (address : ℕ) : Type 0 where
   pub within : Within g v
   pub below : address < size_of g
   pub place : address ≡ place_of g v
 
--- and then each address below the size has just one vector, each vector within just one address, the two definitions above turn them into one
+-- And then each address below the size has just one vector, each vector within just one address, the two definitions above turn them into one
 -- another, and outside the unit they give none.
 pub record Numbered (g : Geometry) : Type 0 where
   pub one_vector : (address : ℕ) → address < size_of g → (v : Vector) × Names g v address × ((w : Vector) → Names g w address → w ≡ v)

@@ -6,7 +6,7 @@ use Rattle.std.specs.Prelude.{ℕ}
 use Rattle.flex.specs.declared.status.Status.{Status}
 use Rattle.flex.specs.declared.status.Status.TheVariants.{IllegalOpcode, ModuleAddressing, AddressBounds, ParameterBounds, MessageSequence, MessageLength, PowerOn, DeviceAvailable, ResourceUnavailable, UnitAvailable, UnitFault, UnrecoverableData, EndOfVolume, BadUnitMap, StoreTooSmall, BadImage, BadHost, BadBuffer}
 
--- a status's group and code
+-- A status's group and code.
 abbrev pub numbers_of : Status → ℕ × ℕ
 numbers_of IllegalOpcode = (1, 1)
 numbers_of ModuleAddressing = (1, 2)

@@ -13,6 +13,7 @@ use Rattle.host.specs.declared.want.Want.TheVariants as wants
 abbrev pub blank : Host
 blank = record { parameters = record { unit = 0; address = 0; length = 0 }; interlocked = false; locks = record { device = false; units = [] }; transaction = None; fault = None }
 
+-- The locks of a host that holds none: not the device's, and none of the fifteen units'.
 abbrev pub no_locks : Locks
 no_locks = record { device = false; units = replicate 15 false }
 
@@ -24,9 +25,11 @@ at_start = record { parameters = at_power_on; interlocked = true; locks = no_loc
 abbrev pub cleared : Host
 cleared = record { parameters = at_power_on; interlocked = false; locks = no_locks; transaction = None; fault = None }
 
+-- What is kept of the host of a number; of a number past the last host, a blank, which holds nothing.
 abbrev pub host_at : List Host → ℕ → Host
 host_at hosts h = slice_index_or hosts h blank
 
+-- The lock of unit u is held; a number past the units, as the controller's, has no lock, and so none is held.
 abbrev pub unit_lock : Locks → ℕ → Bool
 unit_lock l u = slice_index_or l.units u false
 
@@ -34,6 +37,7 @@ unit_lock l u = slice_index_or l.units u false
 abbrev pub locked : Host → ℕ → Bool
 locked x u = unit_lock x.locks u
 
+-- At least one of the list is true; of an empty list none is.
 abbrev pub any : List Bool → Bool
 any [] = false
 any (b ∷ bs) = b || any bs
@@ -43,18 +47,21 @@ abbrev pub unit_of : Option Command → ℕ → Option ℕ
 unit_of None u = None
 unit_of (Some k) u = cond (is_on_unit k) (Some u) None
 
+-- There is a unit, and it is unit u.
 abbrev pub is_unit : Option ℕ → ℕ → Bool
 is_unit None u = false
 is_unit (Some v) u = v == u
 
+-- The transaction is on unit u: its command is on a unit, and its unit is u.
 abbrev pub is_on : Transaction → ℕ → Bool
 is_on t u = is_unit (unit_of t.command t.unit) u
 
--- The host has an open transaction on unit u, in either phase.
+-- There is an open transaction, and it is on unit u, in either phase.
 abbrev pub works_on : Option Transaction → ℕ → Bool
 works_on None u = false
 works_on (Some t) u = is_on t u
 
+-- The host has an open transaction on unit u, in either phase.
 abbrev pub on : Host → ℕ → Bool
 on x u = works_on x.transaction u
 
@@ -78,6 +85,7 @@ stands wants.Device y = has_anything y
 stands (wants.Lock u) y = has_taken y u
 stands (wants.Unit u) y = has_locked y u
 
+-- Some number below a bound passes a test; below 0 there is none.
 unfoldable pub some_below : (ℕ → Bool) → ℕ → Bool
 some_below p zero = false
 some_below p (suc n) = p n || some_below p n

@@ -22,18 +22,20 @@ use Rattle.host.specs.declared.want.Want.{Want}
 use Rattle.host.specs.declared.want.Want.TheVariants as wants
 use Rattle.host.specs.Hosts.{unit_of}
 
--- The size of a unit in blocks; of the controller, and of a number that is no unit's, 0.
+-- The size of a unit in blocks; where there is no unit, 0.
 abbrev pub blocks_of : Option DiscUnit → ℕ
 blocks_of None = 0
 blocks_of (Some u) = size_of u.geometry
 
+-- The size in blocks of the unit of a number; of the controller, and of a number that is no unit's, 0.
 abbrev pub unit_size : UnitMap → ℕ → ℕ
 unit_size map u = blocks_of (unit_at map u)
 
--- A command on a unit with the controller in effect is refused with 1/2, after the whole message has been read.
+-- The message has a command on a unit, and the controller, unit 15, is in effect.
 abbrev pub at_controller : Message → Bool
 at_controller m = is_some (unit_of m.command m.parameters.unit) && m.parameters.unit == 15
 
+-- A command on a unit with the controller in effect is refused with 1/2, after the whole message has been read; an earlier refusal stays.
 abbrev pub on_its_unit : Result Message Status → Result Message Status
 on_its_unit (Ok m) = cond (at_controller m) (Err statuses.ModuleAddressing) (Ok m)
 on_its_unit (Err s) = Err s
@@ -55,28 +57,32 @@ abbrev pub once : Result (Unit {0}) Status → Result Message Status → Result 
 once (Ok u) r = r
 once (Err s) r = Err s
 
--- What comes to the lock check, or the first status before it: the message is read at all, it can be decoded, and it is not on unit 15 (1/2),
--- in this order.
+-- What comes to the lock check, or the first status before it: the message is read at all, it can be decoded, and its command, if on a unit,
+-- is not on unit 15 (1/2), in this order.
 unfoldable pub judged : UnitMap → Bool → Host → List ℕ → Result Message Status
 judged map reaches x bytes = once (ready reaches x) (on_its_unit (decoded map x.parameters bytes))
 
+-- The host with these parameters, and all else as it was.
 abbrev pub with_parameters : Host → Parameters → Host
 with_parameters x p = record { parameters = p; interlocked = x.interlocked; locks = x.locks; transaction = x.transaction; fault = x.fault }
 
+-- The parameters with this target address, and the unit and the length as they were.
 abbrev pub at_address : Parameters → ℕ → Parameters
 at_address p address = record { unit = p.unit; address = address; length = p.length }
 
--- A refused message leaves its host, but 1/3 zeroes the target address.
+-- The status is 1/3.
 abbrev pub is_address_bounds : Status → Bool
 is_address_bounds s = (numbers_of s).0 == 1 && (numbers_of s).1 == 3
 
+-- The target address after a refusal: 0 where the status is 1/3, else as it was.
 abbrev pub address_refused : Status → ℕ → ℕ
 address_refused s address = cond (is_address_bounds s) 0 address
 
+-- A refused message leaves its host, but 1/3 zeroes the target address.
 unfoldable pub refused : Status → Host → Host
 refused s x = with_parameters x (at_address x.parameters (address_refused s x.parameters.address))
 
--- What a message asks for at the lock check: the device's lock, a unit's lock, a unit, or neither.
+-- What a command asks for at the lock check, with unit u in effect: the device's lock, a unit's lock, a unit, or none of them.
 abbrev pub want_of : Option Command → ℕ → Want
 want_of None u = wants.Pass
 want_of (Some commands.Read) u = wants.Unit u
@@ -88,6 +94,7 @@ want_of (Some commands.DeleteDeviceLock) u = wants.Pass
 want_of (Some commands.SetUnitLock) u = wants.Lock u
 want_of (Some commands.DeleteUnitLock) u = wants.Unit u
 
+-- What a message asks for at the lock check, by its command and the unit that it leaves in effect.
 abbrev pub wanted : Message → Want
 wanted m = want_of m.command m.parameters.unit
 
@@ -115,10 +122,11 @@ blocks_asked size amount = cond (amount == 0xffff_ffff) size (amount / 256)
 abbrev pub reporting : Option Command → ℕ → Option Failure → Transaction
 reporting k u o = record { command = k; unit = u; phase = phases.Report; at = 0; left = 0; outcome = o }
 
--- Blocks to move: they must begin in the unit and not pass its end, else the report is 8/5; none at all go straight to the report.
+-- So many blocks from an address on begin in a unit of that size, and do not pass its end.
 abbrev pub fits : ℕ → ℕ → ℕ → Bool
 fits size address count = nat_lt address size && nat_le (address + count) size
 
+-- A transaction with blocks to move: they must begin in the unit and not pass its end, else the report is 8/5; none at all go straight to the report.
 abbrev pub moving : Option Command → ℕ → ℕ → ℕ → ℕ → Transaction
 moving k u size address count =
     cond (fits size address count)
@@ -127,6 +135,7 @@ moving k u size address count =
     (record { command = k; unit = u; phase = phases.Execution; at = address; left = count; outcome = None }))
     (reporting k u (Some failures.EndOfVolume))
 
+-- Whether a command moves blocks: Read, Write and Verify do, no other does, and a message with no real command moves none.
 abbrev pub moves : Option Command → Bool
 moves None = false
 moves (Some commands.Read) = true
@@ -138,6 +147,7 @@ moves (Some commands.DeleteDeviceLock) = false
 moves (Some commands.SetUnitLock) = false
 moves (Some commands.DeleteUnitLock) = false
 
+-- Whether a command describes the units: Extended Describe does, and nothing else.
 abbrev pub describes : Option Command → Bool
 describes None = false
 describes (Some commands.Read) = false
@@ -163,14 +173,14 @@ opened map m =
     (moving m.command m.parameters.unit (unit_size map m.parameters.unit) m.parameters.address (blocks_asked (unit_size map m.parameters.unit) m.parameters.length))
     (unmoving m.command m.parameters.unit)
 
--- The parameters are those that the message asks for, but 8/5 zeroes the target address.
+-- The target address after a message is accepted: the one that it asks for, but 0 where there is 8/5 to report.
 abbrev pub address_after : Option Failure → ℕ → ℕ
 address_after None address = address
 address_after (Some failures.EndOfVolume) address = 0
 address_after (Some failures.UnitFault) address = address
 address_after (Some (failures.Unrecoverable a)) address = address
 
--- The host after its message is accepted. Its fault is forgotten.
+-- The host after its message is accepted: its parameters are those that are asked for, but 8/5 zeroes the target address. Its fault is forgotten.
 unfoldable pub accepted : UnitMap → Message → Host → Host
 accepted map m x = record {
   parameters = at_address m.parameters (address_after (opened map m).outcome m.parameters.address);

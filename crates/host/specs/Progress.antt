@@ -45,10 +45,11 @@ advanced t p = record {
 abbrev pub first_fault : Option HostFault → Option HostFault → Option HostFault
 first_fault earlier new = option_or earlier new
 
--- The target address becomes one past the last block tried.
+-- The target address becomes one past the last block tried; where none was tried it stays.
 abbrev pub address_tried : ℕ → ℕ → ℕ → ℕ
 address_tried old at tried = cond (tried == 0) old (address_past at tried)
 
+-- The host after a segment: its target address and its transaction go on, and the segment's fault is kept if it is the first; all else stays.
 abbrev pub moved_by : Transaction → Progress → Host → Host
 moved_by t p x = record {
   parameters = at_address x.parameters (address_tried x.parameters.address t.at p.tried);

@@ -17,6 +17,7 @@ silent = record { wait = None; notice = None }
 abbrev pub powered : Mail
 powered = record { wait = None; notice = Some statuses.PowerOn }
 
+-- The mail of the host of a number; of a number past the last host, no wait and no notice.
 abbrev pub mail_at : List Mail → ℕ → Mail
 mail_at ms h = slice_index_or ms h silent
 
@@ -35,17 +36,20 @@ notice_of wants.Device = statuses.DeviceAvailable
 notice_of (wants.Lock u) = statuses.UnitAvailable
 notice_of (wants.Unit u) = statuses.UnitAvailable
 
+-- A wait with something in its way stays; else it ends and becomes its notice, in place of an earlier one.
 abbrev pub judged_wait : Bool → Want → Mail → Mail
 judged_wait true w m = m
 judged_wait false w m = record { wait = None; notice = Some (notice_of w) }
 
+-- Without a wait the mail stays; a wait of the host at g is judged by whether another host stands in its way.
 abbrev pub settled_by : List Host → ℕ → Option Want → Mail → Mail
 settled_by hosts g None m = m
 settled_by hosts g (Some w) m = judged_wait (another (stands w) g hosts) w m
 
--- A wait with nothing in its way becomes a notice, in place of an earlier one; all hosts' waits are judged together.
+-- The mail of the host at g once its wait is judged: with nothing in its way it becomes a notice, in place of an earlier one.
 abbrev pub settled : List Host → ℕ → Mail → Mail
 settled hosts g m = settled_by hosts g m.wait m
 
+-- The mail of all hosts once their waits are judged, all of them together.
 unfoldable pub settle : List Host → List Mail → List Mail
 settle hosts ms = map (λ g. settled hosts g (mail_at ms g)) (range_with_len 0 (length ms))

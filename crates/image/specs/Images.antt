@@ -34,6 +34,7 @@ abbrev pub harmed_at : List Block → ℕ → Option Block → List Block
 harmed_at blocks b None = blocks
 harmed_at blocks b (Some block) = slice_set blocks b (record { contents = damaged; protection = block.protection })
 
+-- The blocks after block b was marked damaged.
 abbrev pub harmed : List Block → ℕ → List Block
 harmed blocks b = harmed_at blocks b (slice_get blocks b)
 

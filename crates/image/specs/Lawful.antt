@@ -12,24 +12,29 @@ use Rattle.store.specs.Blocks.{Block, Lawful, Whole, WholeOf}
 use Rattle.image.specs.Memory.{part}
 use Rattle.image.specs.Images.{block_of, blocks_by, block_limit}
 
+-- There are as many blocks as were to be made.
 pub length_numbered : (n : ℕ) (f : ℕ → Block) → length (blocks_by n f) ≡ n
 length_numbered n f = length-map-range_with_len f 0 n
 
+-- Block i, where there is one, is the one made from i.
 pub nth_numbered : (n : ℕ) (f : ℕ → Block) (i : ℕ) → i < n → slice_get (blocks_by n f) i ≡ Some (f i)
 nth_numbered n f i h =
     slice_get-get_or (blocks_by n f) i (f i) (rw length_numbered h) ∙ ap Some (get_or-map-range_with_len f 0 n i i (f i) h (omega arith))
 
+-- Past the count there is no block.
 pub nth_numbered_past : (n : ℕ) (f : ℕ → Block) (i : ℕ) → n ≤ i → slice_get (blocks_by n f) i ≡ None
 nth_numbered_past n f i h = slice_get_past (blocks_by n f) i (rw length_numbered h)
 
+-- A part that lies in the memory has its length.
 pub length_part : (bytes : List ℕ) (at n : ℕ) → at + n ≤ length bytes → length (part bytes at n) ≡ n
 length_part bytes at n h = length-take n (drop at bytes) ∙ ap (min n) (length-drop at bytes) ∙ omega arith
 
+-- A block made from 256 bytes is whole, marked or not.
 whole_block : (mark : Bool) (bytes : List ℕ) (p : Protection) → length bytes ≡ 256 → WholeOf (block_of mark bytes p).contents
 whole_block true bytes p e = tt
 whole_block false bytes p e = e
 
--- blocks with 256 bytes each, marked or not
+-- Blocks with 256 bytes each, marked or not.
 pub lawful_numbered :
     (n : ℕ) (marks : ℕ → Bool) (bytes : ℕ → List ℕ) (p : Protection) → n ≤ block_limit → ((i : ℕ) → i < n → length (bytes i) ≡ 256)
     → Lawful (blocks_by n (λ i. block_of (marks i) (bytes i) p)) (blocks_by n (λ i. block_of (marks i) (bytes i) p)) (Unit {0})

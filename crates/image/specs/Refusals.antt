@@ -3,12 +3,13 @@ use Rattle.std.specs.Prelude.{ℕ, List, codes}
 use Rattle.image.specs.declared.refusal.Refusal.{Refusal}
 use Rattle.image.specs.declared.refusal.Refusal.TheVariants as refusals
 
--- Every refusal has the status of group 128 and code 3.
+-- The group of a refusal's status, 128: every refusal is 128/3.
 abbrev pub refusal_group : Refusal → ℕ
 refusal_group refusals.Records = 128
 refusal_group refusals.Lengths = 128
 refusal_group (refusals.Spare track) = 128
 
+-- The code of a refusal's status, 3.
 abbrev pub refusal_code : Refusal → ℕ
 refusal_code refusals.Records = 3
 refusal_code refusals.Lengths = 3

@@ -17,6 +17,7 @@ abbrev pub shut : Bool → Block → Block
 shut true k = record { contents = k.contents; protection = protections.Protected }
 shut false k = k
 
+-- The blocks with those of the run protected.
 abbrev pub guard : List Block → Run → List Block
 guard bs run = each (λ i. shut (in_run run i)) bs
 
@@ -56,6 +57,7 @@ module _ (bs : List Block) (run : Run) where
     whole = λ i. subst Whole (sym (nth_guard i)) (whole_shut (slice_get bs i) (in_run run i) (s.whole i));
   }
 
+-- A write guard over a lawful store is one: it holds what it means once it is settled.
 pub guard_lawful : (blocks stored : List Block) (Settled : Type 0) (run : Run) → Lawful blocks stored Settled → Lawful (guard blocks run) (guard stored run) Settled
 guard_lawful blocks stored Settled run l = record {
   sized = guard_sized blocks run l.sized;

@@ -36,11 +36,13 @@ window_below bs run b bytes = cond (nat_lt b (length (window bs run))) (written 
 abbrev pub OutsideStays : List Block → List Block → Run → Type 0
 OutsideStays before after run = (j : ℕ) → (j < run.first) ⊎ (run.first + run.count ≤ j) → slice_get after j ≡ slice_get before j
 
+-- Element i of what follows the first f is element f + i.
 nth_drop : {X : Type 0} (f : ℕ) (xs : List X) (i : ℕ) → slice_get (drop f xs) i ≡ slice_get xs (f + i)
 nth_drop zero xs i = ap (slice_get xs) (sym (zero-add i))
 nth_drop (suc f) [] i = refl
 nth_drop (suc f) (x ∷ xs) i = nth_drop f xs i ∙ ap (slice_get (x ∷ xs)) (sym (suc-add f i))
 
+-- An element among the first n is the same there.
 nth_take : {X : Type 0} (n : ℕ) (xs : List X) (i : ℕ) → i < n → slice_get (take n xs) i ≡ slice_get xs i
 nth_take zero xs i h = absurd (omega arith)
 nth_take (suc n) [] i h = refl
@@ -65,6 +67,7 @@ module _ (bs : List Block) (run : Run) where
         ];
   }
 
+-- A window on a lawful store is one: it holds what it means once it is settled.
 pub window_lawful : (blocks stored : List Block) (Settled : Type 0) (run : Run) → Lawful blocks stored Settled → Lawful (window blocks run) (window stored run) Settled
 window_lawful blocks stored Settled run l = record {
   sized = window_sized blocks run l.sized;

@@ -13,40 +13,44 @@ use Rattle.message.specs.Commands.{command_at}
 use Rattle.message.specs.Messages.{starting, takes_unit, takes_address, takes_length, takes_command, with_unit, with_address, with_vector, with_length, with_command, finished}
 use Rattle.message.specs.Operands.{number_in, vector_within}
 
--- a draft, and how many of the bytes after the code were taken
+-- A draft, and how many of the bytes after the code were taken.
 abbrev pub taking : ℕ → Result Draft Status → Result (Draft × ℕ) Status
 taking n (Ok d) = Ok (d, n)
 taking n (Err s) = Err s
 
--- Set Address with a single address takes six bytes
+-- Set Address with the single address that was read takes six bytes; where there were too few to read one, 2/0.
 abbrev pub place_read : UnitMap → Draft → Option ℕ → Result (Draft × ℕ) Status
 place_read m d (Some address) = taking 6 (with_address m d address)
 place_read m d None = Err MessageLength
 
+-- Set Address with a single address: the number that the first six bytes after the code spell.
 abbrev pub place_set : UnitMap → Draft → List ℕ → Result (Draft × ℕ) Status
 place_set m d rest = place_read m d (number_in 6 rest)
 
--- and so it does with a vector
+-- Set Address with the vector that was read takes six bytes, too; where there were too few to read one, 2/0.
 abbrev pub vector_read : UnitMap → Draft → Option Vector → Result (Draft × ℕ) Status
 vector_read m d (Some v) = taking 6 (with_vector m d v)
 vector_read m d None = Err MessageLength
 
+-- Set Address with a vector: the one that the first six bytes after the code spell.
 abbrev pub vector_set : UnitMap → Draft → List ℕ → Result (Draft × ℕ) Status
 vector_set m d rest = vector_read m d (vector_within rest)
 
--- Set Length takes four bytes
+-- Set Length with the length that was read takes four bytes; where there were too few to read one, 2/0.
 abbrev pub amount_read : Draft → Option ℕ → Result (Draft × ℕ) Status
 amount_read d (Some n) = taking 4 (with_length d n)
 amount_read d None = Err MessageLength
 
+-- Set Length: the number that the first four bytes after the code spell.
 abbrev pub amount_set : Draft → List ℕ → Result (Draft × ℕ) Status
 amount_set d rest = amount_read d (number_in 4 rest)
 
--- a real command comes at most once
+-- A real command comes at most once, else 1/6, and takes no bytes after its code; a code that is no command's is not known, 1/1.
 abbrev pub command_read : Draft → Option Command → Result (Draft × ℕ) Status
 command_read d (Some k) = cond (takes_command d) (Ok (with_command d k, 0)) (Err MessageSequence)
 command_read d None = Err IllegalOpcode
 
+-- What a code makes of a draft, read as that of a real command.
 abbrev pub command_set : Draft → ℕ → Result (Draft × ℕ) Status
 command_set d code = command_read d (command_at code)
 
@@ -64,12 +68,13 @@ step m d code rest =
     (cond (takes_length d) (amount_set d rest) (Err MessageSequence))
     (command_set d code))))
 
--- a message from left to right, where the first `skip` bytes belong to the code before
+-- A message from left to right, where the first `skip` bytes belong to the code before.
 abbrev pub scan : UnitMap → List ℕ → ℕ → Draft → Result Draft Status
 scan m [] skip d = Ok d
 scan m (b ∷ bs) (suc skip) d = scan m bs skip d
 scan m (b ∷ bs) zero d = elim (step m d b bs) [ Ok p ↦ scan m bs p.1 p.0 | Err s ↦ Err s ]
 
+-- A draft of the whole message is finished to what the message asks for; a refusal stays.
 abbrev pub completed : Result Draft Status → Result Message Status
 completed (Ok d) = Ok (finished d)
 completed (Err s) = Err s

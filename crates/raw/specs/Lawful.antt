@@ -12,13 +12,14 @@ use Rattle.image.specs.Images.{block_limit}
 use Rattle.image.specs.Lawful.{length_part, lawful_numbered}
 use Rattle.raw.specs.Raw.{records_fit, raw_fits, raw_size, place_of, raw_record, raw_blocks}
 
+-- An image has no more blocks than the limit.
 few_raw : (n t r : ℕ) → raw_size n t r ≤ block_limit
 few_raw n t r =
     cond_both (raw_fits n t r) (Some (t * (r - 1))) None (λ o. unwrap_or o 0 ≤ block_limit)
     (λ e. leb-true (t * (r - 1)) block_limit (and_parts (n == 276 * (r * t)) (nat_le (t * (r - 1)) block_limit) (and_parts (records_fit r) (n == 276 * (r * t) && nat_le (t * (r - 1)) block_limit) e).1).1)
     (λ _. omega arith)
 
--- a block that is there lies in a record of a track
+-- A block that is there lies in a record of a track.
 pub inside_raw : (spares : List ℕ) (n r : ℕ) → (i : ℕ) → i < raw_size n (length spares) r → 276 * raw_record spares r i + 276 ≤ n
 inside_raw spares n r i =
     cond_both (raw_fits n t r) (Some (t * (r - 1))) None (λ o. i < unwrap_or o 0 → 276 * raw_record spares r i + 276 ≤ n)
@@ -34,6 +35,7 @@ inside_raw spares n r i =
     t : ℕ
     t = length spares
 
+-- So its blocks are few enough and whole, and what it holds is what it means.
 pub raw_lawful : (bytes spares : List ℕ) (records : ℕ) (p : Protection) → Lawful (raw_blocks bytes spares records p) (raw_blocks bytes spares records p) (Unit {0})
 raw_lawful bytes spares r p =
     lawful_numbered (raw_size (length bytes) (length spares) r) (λ i. not (slice_index bytes (276 * raw_record spares r i) == 0)) (λ i. part bytes (276 * raw_record spares r i + 6) 256) p (few_raw (length bytes) (length spares) r)

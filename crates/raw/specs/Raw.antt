@@ -38,6 +38,7 @@ abbrev pub raw_block : List ℕ → List ℕ → ℕ → Protection → ℕ → 
 raw_block bytes spares records protection b =
     block_of (not (slice_index bytes (276 * raw_record spares records b) == 0)) (part bytes (276 * raw_record spares records b + 6) 256) protection
 
+-- All blocks of memory and spare places, as many as their lengths make, each with the image's protection.
 abbrev pub raw_blocks : List ℕ → List ℕ → ℕ → Protection → List Block
 raw_blocks bytes spares records protection = blocks_by (raw_size (length bytes) (length spares) records) (raw_block bytes spares records protection)
 
@@ -53,6 +54,7 @@ with_flag bytes record_number = slice_set bytes (276 * record_number) 1
 abbrev pub misplaced : ℕ → List ℕ → Option ℕ
 misplaced records spares = position (nat_le records) spares
 
+-- A track whose spare place is not in it is a refusal that names the track; where there is none, nothing is refused.
 abbrev pub spare_refusal : Option ℕ → Option Refusal
 spare_refusal None = None
 spare_refusal (Some track) = Some (refusals.Spare track)
@@ -93,6 +95,7 @@ pub record FirstMisplaced (spares : List ℕ) (records track : ℕ) : Type 0 whe
   pub outside : records ≤ slice_index spares track
   pub earlier : (t : ℕ) → t < track → slice_index spares t < records
 
+-- A refusal that names a track names the first one whose spare place is not in it; the others tell of none.
 abbrev pub SpareTold : List ℕ → ℕ → Refusal → Type 0
 SpareTold spares records refusals.Records = Unit {0}
 SpareTold spares records refusals.Lengths = Unit {0}

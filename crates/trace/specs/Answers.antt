@@ -15,18 +15,22 @@ use Rattle.desk.specs.declared.answer.Answer.TheVariants as answers
 abbrev pub filled : List ℕ → List ℕ
 filled bytes = bytes ++ replicate (16 - length bytes) 0
 
+-- The status of a refusal or a notice: the number that says which of the two it is, then the group and the code.
 abbrev pub status_bytes : ℕ → Status → List ℕ
 status_bytes number status = filled (number ∷ (numbers_of status).0 ∷ (numbers_of status).1 ∷ [])
 
+-- The number that tells a fault's kind.
 abbrev pub kind_number : FaultKind → ℕ
 kind_number kinds.Length = 0
 kind_number kinds.Beyond = 1
 kind_number kinds.Damaged = 2
 kind_number kinds.Protected = 3
 
+-- A fault: 6, its kind, the block's number in four bytes, the unit, and the block's address there in four; the most significant byte comes first.
 abbrev pub fault_bytes : HostFault → List ℕ
 fault_bytes f = filled (6 ∷ kind_number f.fault.store.kind ∷ to_be_bytes w32 f.fault.store.block ++ f.unit ∷ to_be_bytes w32 f.address)
 
+-- Parameters: 7, the unit, then the address and the length in four bytes each, the most significant byte first.
 abbrev pub parameters_bytes : Parameters → List ℕ
 parameters_bytes p = filled (7 ∷ p.unit ∷ to_be_bytes w32 p.address ++ to_be_bytes w32 p.length)
 
@@ -35,6 +39,7 @@ abbrev pub unit_bits : List Bool → ℕ
 unit_bits [] = 0
 unit_bits (held ∷ others) = (if held then 1 else 0) + 2 * unit_bits others
 
+-- A host's locks: 8, then 1 if it holds the device's, else 0, and the bits of the units in two bytes, the most significant byte first.
 abbrev pub locks_bytes : Locks → List ℕ
 locks_bytes l = filled (8 ∷ (if l.device then 1 else 0) ∷ to_be_bytes w16 (unit_bits l.units))
 

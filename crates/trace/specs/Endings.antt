@@ -3,6 +3,7 @@ use Rattle.std.specs.Prelude.{ℕ, ◌+◌, ◌*◌, ◌^◌}
 use Rattle.trace.specs.declared.ending.How.{How}
 use Rattle.trace.specs.declared.ending.How.TheVariants as hows
 
+-- The number that tells how a trace ended: 0 where every call was made.
 abbrev pub how_code : How → ℕ
 how_code hows.Whole = 0
 how_code hows.NoHead = 1

@@ -69,9 +69,11 @@ entry_in (kind ∷ host ∷ rest) = entry_by kind host rest
 
 -- ---- What the code holds of them.
 
+-- The buffer that a filling in the code stands for: its size, and the bytes that its front is given.
 abbrev pub lent : Filling → Lent
 lent filling = record { size = filling.size; given = filling.given.now }
 
+-- The entry that a call in the code stands for, with all that it is given.
 abbrev pub entry : Call → Entry
 entry (calls.Command host message) = command host message.now
 entry (calls.Segment host filling) = segment host (lent filling)

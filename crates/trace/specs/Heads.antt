@@ -13,6 +13,7 @@ pub record Heading : Type 0 where
 
 -- ---- How it is written.
 
+-- One byte, and those after it; none where there is no byte.
 abbrev pub byte_in : List ℕ → Option (ℕ × List ℕ)
 byte_in [] = None
 byte_in (byte ∷ rest) = Some (byte, rest)
@@ -24,6 +25,7 @@ unit_of bytes = record {
   geometry = record { cylinders = from_be_bytes w16 (take 2 (drop 4 bytes)); heads = slice_index bytes 6; sectors = slice_index bytes 7 };
 }
 
+-- So many units one after the other, each of the next eight bytes.
 abbrev pub units_of : ℕ → List ℕ → List DiscUnit
 units_of zero bytes = []
 units_of (suc n) bytes = unit_of (take 8 bytes) ∷ units_of n (drop 8 bytes)
@@ -39,5 +41,6 @@ head_in bytes = do
 
 -- ---- What the code holds of it.
 
+-- What a head in the code says: the device's number, the stated end, and its units, each from eight bytes.
 abbrev pub heading : Head → Heading
 heading head = record { device = head.device; end = head.end; units = map unit_of head.units.now }

@@ -11,6 +11,7 @@ use Rattle.trace.specs.Entries.{Entry, command, segment, report, cancel, clear, 
 abbrev pub laid : List ℕ → List ℕ → List ℕ
 laid given buffer = given ++ drop (length given) buffer
 
+-- An entry's call is made: a segment and a report take the buffer with the given bytes laid in, all others leave it, and views change nothing.
 unfoldable pub made : World → Entry → List ℕ → Made
 made w (command h message) buffer = beside buffer (by_call w h (calls.command h message))
 made w (segment h lent) buffer = by_segment w h (held w.desk h) (laid lent.given buffer)

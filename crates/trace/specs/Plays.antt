@@ -27,6 +27,7 @@ tells blocks output ending = record { blocks = blocks; output = output; written 
 abbrev pub used : List ℕ → ℕ
 used output = min (length output) (2 ^ 56 - 1)
 
+-- The outcome of a course: the blocks after the tickets that are still open were cancelled, and the output with its unused part behind.
 abbrev pub over : Course → List ℕ → Outcome
 over c unused = record { blocks = (at_end c.world).blocks; output = c.output ++ unused; written = c.written; how = c.how }
 
@@ -34,6 +35,7 @@ over c unused = record { blocks = (at_end c.world).blocks; output = c.output ++ 
 abbrev pub refused : How → List Block → List ℕ → Outcome
 refused how blocks output = record { blocks = blocks; output = output; written = 0; how = how }
 
+-- With a map, the course of the calls on a device powered on over the blocks, in the used part of the output; without one, a refusal.
 abbrev pub outcome : Result UnitMap Status → ℕ → List Block → List ℕ → List ℕ → Outcome
 outcome (Ok map) number blocks calls output = over (course (at_start number map blocks) calls (take (used output) output)) (drop (used output) output)
 outcome (Err status) number blocks calls output = refused hows.NoMap blocks output

@@ -7,14 +7,14 @@ use Rattle.store.specs.declared.fault.StoreFault.{StoreFault}
 use Rattle.store.specs.declared.fault.FaultKind.TheVariants as kinds
 use Rattle.store.specs.declared.fault.Protection.{Protection}
 use Rattle.store.specs.declared.fault.Protection.TheVariants as protections
-use Rattle.store.specs.Blocks.{Block, Contents, sound, damaged, Whole, WholeOf, fault, open_block, buffer_of, buffer_at, write_of, write_at}
+use Rattle.store.specs.Blocks.{Block, Contents, sound, damaged, Whole, WholeOf, fault, open_block, buffer_of, buffer_at, write_of, write_at, is_open, is_open_at}
 use Rattle.store.proofs.Nth.{nth_set_same, nth_set_other}
 use Rattle.message.specs.declared.command.Command.{Command}
 use Rattle.host.specs.declared.fault.HostFault.{HostFault}
 use Rattle.host.specs.declared.transaction.Failure.{Failure}
 use Rattle.host.specs.declared.transaction.Transaction.{Transaction}
 use Rattle.transfer.specs.Segments.{span, zeros, met, read_bytes, put_next, put, write_by, moved_by_command, laid}
-use Rattle.transfer.specs.Transfers.{part, is_open, is_writable}
+use Rattle.transfer.specs.Transfers.{part}
 use Rattle.transfer.proofs.Faults.{fault_by}
 use Rattle.transfer.proofs.Spans.{laid_other}
 
@@ -109,7 +109,7 @@ pub moved_short : (k : Option Command) (t : Transaction) (b : ℕ) (os : List (O
 unfolding moved_by_command
 moved_short k t b os buffer = grind (arith, write_short)
 
-pub writes : (b : ℕ) (o : Option Block) → is_writable o ≡ true → write_at b o ≡ Ok tt
+pub writes : (b : ℕ) (o : Option Block) → is_open_at o ≡ true → write_at b o ≡ Ok tt
 writes b None e = cc
 writes b (Some k) e = of k.protection e
   where
@@ -117,7 +117,7 @@ writes b (Some k) e = of k.protection e
     of protections.Open e = refl
     of protections.Protected e = cc
 
-pub refuses : (b : ℕ) (o : Option Block) → is_writable o ≡ false → (f : StoreFault) × (write_at b o ≡ Err f)
+pub refuses : (b : ℕ) (o : Option Block) → is_open_at o ≡ false → (f : StoreFault) × (write_at b o ≡ Err f)
 refuses b None e = (fault kinds.Beyond b, refl)
 refuses b (Some k) e = of k.protection e
   where
@@ -136,26 +136,26 @@ module _ (bs : List Block) where
   at_next P b j = let i : b + suc j ≡ suc b + j = omega arith in ap (λ (k : ℕ). P (slice_get bs k)) i
 
   -- What is put for block j, if no block up to it refuses.
-  pub put_at : (b n j : ℕ) (bytes : List ℕ) → j < n → ((i : ℕ) → i ≤ j → is_writable (slice_get bs (b + i)) ≡ true) → slice_get (put b (span bs b n) bytes) j ≡ Some (open_block (part j bytes))
+  pub put_at : (b n j : ℕ) (bytes : List ℕ) → j < n → ((i : ℕ) → i ≤ j → is_open_at (slice_get bs (b + i)) ≡ true) → slice_get (put b (span bs b n) bytes) j ≡ Some (open_block (part j bytes))
   put_at b zero j bytes l all = absurd (omega arith)
   put_at b (suc n) zero bytes l all =
-      let here = writes b (slice_get bs b) (sym (at_first is_writable b) ∙ all 0 (omega arith)) in
+      let here = writes b (slice_get bs b) (sym (at_first is_open_at b) ∙ all 0 (omega arith)) in
       ap (λ r. slice_get (put_next r (open_block (take 256 bytes)) (put (suc b) (span bs (suc b) n) (drop 256 bytes))) 0) here
   put_at b (suc n) (suc j) bytes l all =
-      let here = writes b (slice_get bs b) (sym (at_first is_writable b) ∙ all 0 (omega arith)) in
+      let here = writes b (slice_get bs b) (sym (at_first is_open_at b) ∙ all 0 (omega arith)) in
       ap (λ r. slice_get (put_next r (open_block (take 256 bytes)) (put (suc b) (span bs (suc b) n) (drop 256 bytes))) (suc j)) here
-      ∙ put_at (suc b) n j (drop 256 bytes) (omega arith) (λ i k. sym (at_next is_writable b i) ∙ all (suc i) (omega arith))
+      ∙ put_at (suc b) n j (drop 256 bytes) (omega arith) (λ i k. sym (at_next is_open_at b i) ∙ all (suc i) (omega arith))
       ∙ ap (λ (p : List ℕ). Some (open_block p)) (part_drop j bytes)
 
   -- Nothing is put from a block that refuses on.
-  pub put_ends : (b n i : ℕ) (bytes : List ℕ) → is_writable (slice_get bs (b + i)) ≡ false → length (put b (span bs b n) bytes) ≤ i
+  pub put_ends : (b n i : ℕ) (bytes : List ℕ) → is_open_at (slice_get bs (b + i)) ≡ false → length (put b (span bs b n) bytes) ≤ i
   put_ends b zero i bytes e = omega arith
   put_ends b (suc n) zero bytes e =
-      let here = refuses b (slice_get bs b) (sym (at_first is_writable b) ∙ e) in
+      let here = refuses b (slice_get bs b) (sym (at_first is_open_at b) ∙ e) in
       let k : put b (span bs b (suc n)) bytes ≡ [] = ap (λ r. put_next r (open_block (take 256 bytes)) (put (suc b) (span bs (suc b) n) (drop 256 bytes))) here.1 in
       omega (arith, ap length k)
   put_ends b (suc n) (suc i) bytes e =
-      put_next_short (write_at b (slice_get bs b)) (open_block (take 256 bytes)) (put (suc b) (span bs (suc b) n) (drop 256 bytes)) i (put_ends (suc b) n i (drop 256 bytes) (sym (at_next is_writable b i) ∙ e))
+      put_next_short (write_at b (slice_get bs b)) (open_block (take 256 bytes)) (put (suc b) (span bs (suc b) n) (drop 256 bytes)) i (put_ends (suc b) n i (drop 256 bytes) (sym (at_next is_open_at b i) ∙ e))
 
 -- What stands where something is laid.
 module _ {X : Type 0} where

@@ -4,14 +4,14 @@ use Rattle.std.specs.List.{slice_get}
 use Rattle.std.proofs.lemmas.List.{drop_at}
 use Rattle.store.specs.declared.fault.FaultKind.TheVariants as kinds
 use Rattle.store.specs.declared.fault.StoreFault.{StoreFault}
-use Rattle.store.specs.Blocks.{Block, Contents, sound, damaged, fault, open_block, read_of, read_at, write_at}
+use Rattle.store.specs.Blocks.{Block, Contents, sound, damaged, fault, open_block, read_of, read_at, write_at, is_open_at}
 use Rattle.message.specs.declared.command.Command.{Command}
 use Rattle.message.specs.declared.command.Command.TheVariants as commands
 use Rattle.host.specs.declared.fault.HostFault.{HostFault}
 use Rattle.host.specs.declared.transaction.Failure.{Failure}
 use Rattle.host.specs.declared.transaction.Transaction.{Transaction}
 use Rattle.transfer.specs.Segments.{span, read_fault, read_bytes, after_reading, write_fault, after_writing, put, laid, write_by, moved_by_command}
-use Rattle.transfer.specs.Transfers.{part, is_sound, is_readable, is_writable, Scanned, HandedOver, Written, Wrote, MovesBy, Moves}
+use Rattle.transfer.specs.Transfers.{part, is_sound, is_readable, Scanned, HandedOver, Written, Wrote, MovesBy, Moves}
 use Rattle.transfer.proofs.Faults.{read_faults, write_faults}
 use Rattle.transfer.proofs.Spans.{length_span, laid_other}
 use Rattle.transfer.proofs.Starting.{nothing_read}
@@ -33,7 +33,7 @@ unread b (Some k) e = of k.contents e
     of (sound bytes) e = cc
     of damaged e = (fault kinds.Damaged b, refl)
 
-there : (o : Option Block) → is_writable o ≡ true → (k : Block) × (o ≡ Some k)
+there : (o : Option Block) → is_open_at o ≡ true → (k : Block) × (o ≡ Some k)
 there None e = cc
 there (Some k) e = (k, refl)
 
@@ -71,9 +71,9 @@ module _ (t : Transaction) (bs : List Block) (b n : ℕ) where
 
     wrote : t.outcome ≡ None → Wrote bs b n (after_writing t.outcome (write_fault t.unit b t.at (span bs b n)))
     wrote fine = record {
-      fine = λ all. ap₂ (λ (o : Option Failure) (f : Option HostFault). after_writing o f) fine (write_faults t.unit b t.at (span bs b n) ∙ none_fails write_at is_writable writes refuses t.unit bs b t.at n all);
+      fine = λ all. ap₂ (λ (o : Option Failure) (f : Option HostFault). after_writing o f) fine (write_faults t.unit b t.at (span bs b n) ∙ none_fails write_at is_open_at writes refuses t.unit bs b t.at n all);
       failed = λ j l now.
-          let f = some_fails write_at is_writable writes refuses t.unit bs b t.at n j l now in
+          let f = some_fails write_at is_open_at writes refuses t.unit bs b t.at n j l now in
           ap₂ (λ (o : Option Failure) (g : Option HostFault). after_writing o g) fine (write_faults t.unit b t.at (span bs b n) ∙ f.1);
     }
 

@@ -2,9 +2,7 @@
 use Rattle.std.specs.Prelude.{◌≡◌, ℕ, ◌+◌, ◌*◌, ◌<◌, ◌≤◌, Bool, true, false, ◌⊎◌, List, take, drop, Some, None, Ok, Err, Option, Result, ◌≢◌}
 use Rattle.std.specs.List.{slice_get}
 use Rattle.std.specs.Option.{option_or}
-use Rattle.store.specs.declared.fault.Protection.{Protection}
-use Rattle.store.specs.declared.fault.Protection.TheVariants as protections
-use Rattle.store.specs.Blocks.{Block, Contents, sound, damaged, open_block, buffer_at}
+use Rattle.store.specs.Blocks.{Block, Contents, sound, damaged, open_block, buffer_at, is_open_at}
 use Rattle.message.specs.declared.command.Command.{Command}
 use Rattle.message.specs.declared.command.Command.TheVariants as commands
 use Rattle.flex.specs.declared.status.Status.{Status}
@@ -18,22 +16,15 @@ use Rattle.transfer.specs.Segments.{zeros}
 abbrev pub part : ℕ → List ℕ → List ℕ
 part j bytes = take 256 (drop (256 * j) bytes)
 
--- A block can be read when it is there and sound, and written when it is there and open.
+-- The contents are sound, and not damaged.
 abbrev pub is_sound : Contents → Bool
 is_sound (sound bytes) = true
 is_sound damaged = false
 
+-- A block can be read when it is there and sound.
 abbrev pub is_readable : Option Block → Bool
 is_readable None = false
 is_readable (Some k) = is_sound k.contents
-
-abbrev pub is_open : Protection → Bool
-is_open protections.Open = true
-is_open protections.Protected = false
-
-abbrev pub is_writable : Option Block → Bool
-is_writable None = false
-is_writable (Some k) = is_open k.protection
 
 -- The n blocks from block b and address a on are read: the first that cannot be read is to be reported with its address, unless there was
 -- something to report already.
@@ -49,14 +40,14 @@ pub record HandedOver (bs : List Block) (b n : ℕ) (given left : List ℕ) : Ty
 -- They are written in order: each takes its bytes, up to the first that cannot be written, and from there on every block stays; so does every
 -- block outside.
 pub record Written (bs bs' : List Block) (b n : ℕ) (given : List ℕ) : Type 0 where
-  pub taken : (j : ℕ) → j < n → ((i : ℕ) → i ≤ j → is_writable (slice_get bs (b + i)) ≡ true) → slice_get bs' (b + j) ≡ Some (open_block (part j given))
-  pub stopped : (i j : ℕ) → i ≤ j → is_writable (slice_get bs (b + i)) ≡ false → slice_get bs' (b + j) ≡ slice_get bs (b + j)
+  pub taken : (j : ℕ) → j < n → ((i : ℕ) → i ≤ j → is_open_at (slice_get bs (b + i)) ≡ true) → slice_get bs' (b + j) ≡ Some (open_block (part j given))
+  pub stopped : (i j : ℕ) → i ≤ j → is_open_at (slice_get bs (b + i)) ≡ false → slice_get bs' (b + j) ≡ slice_get bs (b + j)
   pub outside : (c : ℕ) → (c < b) ⊎ (b + n ≤ c) → slice_get bs' c ≡ slice_get bs c
 
 -- There is a fault to report just when one of them could not be written.
 pub record Wrote (bs : List Block) (b n : ℕ) (after : Option Failure) : Type 0 where
-  pub fine : ((j : ℕ) → j < n → is_writable (slice_get bs (b + j)) ≡ true) → after ≡ None
-  pub failed : (j : ℕ) → j < n → is_writable (slice_get bs (b + j)) ≡ false → after ≡ Some failures.UnitFault
+  pub fine : ((j : ℕ) → j < n → is_open_at (slice_get bs (b + j)) ≡ true) → after ≡ None
+  pub failed : (j : ℕ) → j < n → is_open_at (slice_get bs (b + j)) ≡ false → after ≡ Some failures.UnitFault
 
 -- The n blocks from b on of a transaction t are moved: from blocks bs to bs', from a buffer as it is given to one as it is left, and to what
 -- there is to report after. A Write with something to report already drops its data.
@@ -76,6 +67,7 @@ MovesBy (Some commands.DeleteDeviceLock) t b n bs bs' given left after = Unit {0
 MovesBy (Some commands.SetUnitLock) t b n bs bs' given left after = Unit {0}
 MovesBy (Some commands.DeleteUnitLock) t b n bs bs' given left after = Unit {0}
 
+-- The same by the transaction's own command; where that moves no block, nothing is said.
 abbrev pub Moves : Transaction → ℕ → ℕ → List Block → List Block → List ℕ → List ℕ → Option Failure → Type 0
 Moves t b n bs bs' given left after = MovesBy t.command t b n bs bs' given left after
 

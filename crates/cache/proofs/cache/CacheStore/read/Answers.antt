@@ -1,8 +1,8 @@
 use Rattle.std.proofs.Common.{◌≡◌, true, false, cond, ◌&&◌, length, get_or, is_ok, Some, Ok, sym, refl, ap, ◌∙◌, inl, rules}
 use Rattle.std.specs.List.{slice_get}
 use Rattle.std.proofs.lemmas.Bool.{false≢true, not-true, not-false}
-use Rattle.store.specs.Blocks.{read_answer, read_buffer, written}
-use Rattle.cache.specs.Caches.{held, means, keeping, no_slot, is_open_at, cached}
+use Rattle.store.specs.Blocks.{read_answer, read_buffer, written, is_open_at}
+use Rattle.cache.specs.Caches.{held, means, keeping, no_slot, cached}
 use Rattle.cache.proofs.SlotFacts.{first_place, first_kept, none_kept}
 use Rattle.cache.proofs.CacheFacts.{compared_open, shut_same, open_kept, unkept_same, keeping_again, read_anew, read_keeps, same_read, open_read}
 use Rattle.cache.proofs.cache.CacheStore.read.Goals as goal
