@@ -16,3 +16,4 @@ mod Padding
 mod Sessions
 mod Filling
 mod Held
+mod Printed

@@ -108,8 +108,11 @@ was_made (answers.Activity count) = true
 abbrev pub tells_buffer : HostAct → Answer → Bool
 tells_buffer act answer = lends act && was_made answer
 
--- The line: the call's name, its host, what came of it, and the buffer.
+-- The words of the line: the call's name, its host, what came of it, and the buffer.
+abbrev pub host_words : ℕ → HostAct → Answer → List ℕ → List ℕ
+host_words h act answer buffer =
+    host_act_name act ++ (codes " " ++ (decimal h ++ (codes ": " ++ (told_words act answer buffer ++ cond (tells_buffer act answer) (lent_words buffer) []))))
+
+-- So it is printed, by what the code holds of it.
 abbrev pub host_said : HostSaid → List ℕ
-host_said said =
-    host_act_name said.act.now
-    ++ (codes " " ++ (decimal said.host ++ (codes ": " ++ (told_words said.act.now said.answer said.buffer.now ++ cond (tells_buffer said.act.now said.answer) (lent_words said.buffer.now) []))))
+host_said said = host_words said.host said.act.now said.answer said.buffer.now

@@ -3,9 +3,9 @@ use Rattle.std.specs.Prelude.{ℕ, Bool, false, cond, List, [], ◌++◌, map, S
 use Rattle.std.specs.List.{range_with_len, list_all, enumerate_from}
 use Rattle.flex.specs.declared.status.Status.{Status}
 use Rattle.host.specs.declared.locks.Locks.{Locks}
-use Rattle.host.specs.Hosts.{unit_lock}
-use Rattle.device.specs.declared.controller.Controller.{Controller}
-use Rattle.device.specs.Device.{locks_of}
+use Rattle.host.specs.declared.record.Host.{Host}
+use Rattle.host.specs.Hosts.{host_at, unit_lock}
+use Rattle.device.specs.Device.{viewed}
 use Rattle.cuwajimo.specs.declared.holders.Holders.{Holders}
 use Rattle.cuwajimo.specs.declared.holders.Lock.{Lock}
 use Rattle.cuwajimo.specs.declared.holders.Lock.TheVariants as locks
@@ -18,18 +18,18 @@ lock_among (locks.Unit unit) (Ok held) = unit_lock held unit
 lock_among (locks.Unit unit) (Err status) = false
 
 -- The host holds the lock; a host above 7 has none.
-abbrev pub holds : Controller → Lock → ℕ → Bool
-holds controller lock host = lock_among lock (locks_of controller host)
+abbrev pub holds : List Host → Lock → ℕ → Bool
+holds hosts lock host = lock_among lock (viewed host (host_at hosts host).locks)
 
 -- The first of the eight hosts that holds a lock.
-abbrev pub first_holder : Controller → Lock → Option ℕ
-first_holder controller lock = find (holds controller lock) (range_with_len 0 8)
+abbrev pub first_holder : List Host → Lock → Option ℕ
+first_holder hosts lock = find (holds hosts lock) (range_with_len 0 8)
 
 -- Of the device, and of each of its 15 units.
-abbrev pub holders_of : Controller → Holders
-holders_of controller = record {
-  device = first_holder controller locks.Device;
-  units = map (λ unit. first_holder controller (locks.Unit unit)) (range_with_len 0 15);
+abbrev pub holders_of : List Host → Holders
+holders_of hosts = record {
+  device = first_holder hosts locks.Device;
+  units = map (λ unit. first_holder hosts (locks.Unit unit)) (range_with_len 0 15);
 }
 
 -- A locked unit and its holder.

@@ -16,3 +16,4 @@ pub mod Numerals
 pub mod Holders
 pub mod Sessions
 pub mod Shown
+pub mod Printed

@@ -1,9 +1,8 @@
 -- What the calls of a case make of a device.
-use Rattle.std.specs.Prelude.{◌≡◌, ℕ, List, [], ◌∷◌, Ok, Err, Result, vec_items}
+use Rattle.std.specs.Prelude.{ℕ, List, [], ◌∷◌, Ok, Err, Result, vec_items}
 use Rattle.store.specs.Blocks.{Block}
 use Rattle.flex.specs.declared.status.Status.{Status}
 use Rattle.flex.specs.declared.unit_map.UnitMap.{UnitMap}
-use Rattle.flex.specs.Maps.{Makes}
 use Rattle.device.specs.Calls as calls
 use Rattle.device.specs.Device.{host_of, viewed}
 use Rattle.desk.specs.Desks.{held}
@@ -13,7 +12,6 @@ use Rattle.cuwajimo.specs.declared.call.Act.TheVariants as acts
 use Rattle.cuwajimo.specs.declared.call.HostAct.{HostAct}
 use Rattle.cuwajimo.specs.declared.call.HostAct.TheVariants as host_acts
 use Rattle.cuwajimo.specs.declared.call.Call.{Call}
-use Rattle.cuwajimo.specs.declared.case.Case.{Case}
 use Rattle.cuwajimo.specs.declared.session.Outcome.{Outcome}
 use Rattle.cuwajimo.specs.declared.session.Outcome.TheVariants.{Served, Refused}
 use Rattle.cuwajimo.specs.Bytes.{repeating}
@@ -67,10 +65,3 @@ blocks_left (Err status) number blocks calls = blocks
 abbrev pub outcome_of : Result UnitMap Status → Outcome
 outcome_of (Ok map) = Served
 outcome_of (Err status) = Refused
-
--- A case served over a store of these blocks: by the map that its units make, or by none, the outcome and the blocks after its calls before `off`.
-pub record Serves (case : Case) (blocks : List Block) (outcome : Outcome) (after : List Block) : Type 0 where
-  pub map : Result UnitMap Status
-  pub made : Makes (vec_items case.plan.units) case.plan.end map
-  pub ended : outcome ≡ outcome_of map
-  pub left : after ≡ blocks_left map case.plan.device blocks (vec_items case.on)

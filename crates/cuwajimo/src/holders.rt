@@ -19,7 +19,7 @@ pub struct Holders {
 impl Holders {
     /// Those of a session's device.
     pub(super) fn of<S: Store>(session: &Session<S>) -> Holders
-        ensures { result ≡ holders_of session.now.device.controller }
+        ensures { result ≡ holders_of session.now.device.controller.hosts }
     {
         let mut units = [None; UNITS];
         // by index: `from_fn` and `iter_mut` were tried, and the proof does not close over what they ensure of an `Option`
@@ -82,7 +82,7 @@ enum Lock {
 
 /// Whether a host holds a lock.
 fn has<S: Store>(session: &Session<S>, host: u8, lock: Lock) -> bool
-    ensures { result ≡ holds session.now.device.controller lock host }
+    ensures { result ≡ holds session.now.device.controller.hosts lock host }
 {
     match session.locks(host) {
         Answer::Locks(locks) => match lock {
@@ -95,7 +95,7 @@ fn has<S: Store>(session: &Session<S>, host: u8, lock: Lock) -> bool
 
 /// The first host that holds a lock; no two do.
 fn holder<S: Store>(session: &Session<S>, lock: Lock) -> Option<u8>
-    ensures { result ≡ first_holder session.now.device.controller lock }
+    ensures { result ≡ first_holder session.now.device.controller.hosts lock }
 {
     (0..HOSTS as u8).find(|host| has(session, *host, lock))
 }

@@ -22,9 +22,9 @@ mod words;
 
 use run::{check_files, run};
 use script::cases;
-use std::io::{IsTerminal, Read};
+use std::io::{IsTerminal, LineWriter, Read};
 use std::process::ExitCode;
-use std::{env, fs};
+use std::{env, fs, io};
 use trouble::{Trouble, USAGE, unread};
 
 /// The script's text on standard input. Whoever sits at a terminal is told that it is waited for.
@@ -60,7 +60,8 @@ fn perform(rt: &HostRuntime) -> Result<(), Trouble> {
         let _ = eprintln!(rt; "the script makes no call: nothing was done");
     }
     check_files(rt, cases.as_slice())?;
-    run(rt, cases.as_slice())
+    let mut out = LineWriter::new(rt.alloc(), io::writer(rt))?;
+    run(rt, &mut out, cases.as_slice())
 }
 
 fn main(rt: HostRuntime) -> ExitCode {

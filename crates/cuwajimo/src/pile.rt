@@ -1,7 +1,9 @@
-ghost use Rattle.std.specs.Prelude.{◌≡◌, Some};
+ghost use Rattle.std.specs.Prelude.{◌≡◌, OnOk, Some};
+ghost use Rattle.std.specs.Io.KnownBytes.{Appends};
 ghost use Rattle.layer.specs.Guards.{guarded};
 ghost use Rattle.layer.specs.Windows.{windowed};
 ghost use Rattle.cuwajimo.specs.Plans.{layers, NoLayer};
+ghost use Rattle.cuwajimo.specs.Printed.{block_lines};
 ghost use Rattle.cuwajimo.specs.Shown.{block_said, protection_word, shown_at};
 
 use super::case::CaseRun;
@@ -12,9 +14,10 @@ use super::plan::Plan;
 use super::session::{Ended, Outcome};
 use super::trouble::Trouble;
 use cache::cache::Cache;
+use image::refusal::Refusal;
 use layer::guard::WriteGuard;
 use layer::window::Window;
-use std::fmt;
+use std::{fmt, io};
 use store::calls::fetch_block;
 use store::fault::Protection;
 use store::store::Store;
@@ -84,47 +87,51 @@ fn look<S: Store>(store: &mut S, block: u64) -> Shown
 }
 
 /// Shows so many blocks from the first on.
-fn show_blocks<S: Store>(
-    rt: &HostRuntime,
+fn show_blocks<S: Store, W: io::Write>(
+    out: &mut W,
     store: &mut S,
     first: u32,
     count: u32,
 ) -> Result<(), Trouble>
-    ensures { S.Store.blocks store.new ≡ S.Store.blocks store.old }
+    ensures same { S.Store.blocks store.new ≡ S.Store.blocks store.old }
+    ensures printed { OnOk result (Appends (W.contents out.old) (W.contents out.new) (block_lines (S.Store.blocks store.old) first count)) }
 {
     let first = u64::from(first);
     for block in first..first + u64::from(count) {
         let shown = look(store, block);
-        println!(rt; "{}", BlockSaid { block, shown })?;
+        let said = BlockSaid { block, shown };
+        writeln!(out, "{said}")?;
     }
     Ok(())
 }
 
 /// What is done with a pile while it stands. The pile is handed back.
 pub(super) trait Job {
-    fn perform<S: Store>(&self, run: CaseRun<'_>, store: S) -> Ended<S>;
+    fn perform<S: Store>(self, run: CaseRun<'_>, store: S) -> Ended<S>;
 }
 
 /// A device over the pile answers the calls before `off`.
-#[derive(Clone, Copy)]
-pub(super) struct Serve;
+#[derive(Drop)]
+pub(super) struct Serve<'o, W>(pub(super) &'o mut W);
 
-impl Job for Serve {
-    fn perform<S: Store>(&self, run: CaseRun<'_>, store: S) -> Ended<S> {
-        run.serve(store)
+impl<W: io::Write> Job for Serve<'_, W> {
+    fn perform<S: Store>(self, run: CaseRun<'_>, store: S) -> Ended<S> {
+        run.serve(self.0, store)
     }
 }
 
 /// Blocks of the pile are shown.
-#[derive(Clone, Copy)]
-pub(super) struct Show {
+#[derive(Drop)]
+pub(super) struct Show<'o, W> {
+    pub(super) out: &'o mut W,
     pub(super) first: u32,
     pub(super) count: u32,
 }
 
-impl Job for Show {
-    fn perform<S: Store>(&self, run: CaseRun<'_>, mut store: S) -> Ended<S> {
-        let shown = show_blocks(run.rt, &mut store, self.first, self.count);
+impl<W: io::Write> Job for Show<'_, W> {
+    fn perform<S: Store>(self, _run: CaseRun<'_>, mut store: S) -> Ended<S> {
+        let Show { out, first, count } = self;
+        let shown = show_blocks(out, &mut store, first, count);
         Ended {
             store,
             outcome: shown.map(|_| Outcome::Served),
@@ -164,18 +171,12 @@ impl<J: Job + Drop> OnImage for OverImage<'_, J> {
 }
 
 impl CaseRun<'_> {
-    /// Does a job on the pile that the plan asks for, or says why its image is refused.
+    /// Does a job on the pile that the plan asks for, unless its image is refused.
     pub(super) fn on_pile<J: Job + Drop>(
         self,
         medium: &mut Medium,
         job: J,
-    ) -> Result<Outcome, Trouble> {
-        match medium.open(self.case.plan.protection, OverImage { run: self, job }) {
-            Ok(outcome) => outcome,
-            Err(refusal) => {
-                println!(self.rt; "image: refused {refusal}")?;
-                Ok(Outcome::Refused)
-            }
-        }
+    ) -> Result<Result<Outcome, Trouble>, Refusal> {
+        medium.open(self.case.plan.protection, OverImage { run: self, job })
     }
 }

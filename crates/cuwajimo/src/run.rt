@@ -1,3 +1,9 @@
+ghost use Rattle.std.specs.Prelude.{◌≡◌, ◌++◌, IfOk, MatchResult, OnOk, Some};
+ghost use Rattle.std.specs.Io.KnownBytes.{Appends};
+ghost use Rattle.cuwajimo.specs.declared.session.Outcome.TheVariants.{Refused};
+ghost use Rattle.cuwajimo.specs.Calls.{calls_off, calls_on};
+ghost use Rattle.cuwajimo.specs.Printed.{nothing_lines, refused_line, save_line, saved_of, saved_word};
+
 use super::call::{Act, Call};
 use super::case::{Case, CaseRun};
 use super::fill::prepare;
@@ -7,6 +13,28 @@ use super::plan::Source;
 use super::say;
 use super::session::Outcome;
 use super::trouble::{Spot, Trouble};
+use image::refusal::Refusal;
+use std::fmt;
+use std::io::Write;
+
+/// What came of a `save`.
+#[derive(Clone, Copy)]
+enum Saved {
+    Written,
+    /// the image came from no file
+    NoFile,
+}
+
+impl fmt::Display for Saved {
+    ghost output = { λ saved. Some (saved_word saved) };
+
+    fn fmt<W: fmt::Write>(&self, f: &mut fmt::Formatter<W>) -> fmt::Result {
+        f.write_str(match self {
+            Saved::Written => "written",
+            Saved::NoFile => "no file",
+        })
+    }
+}
 
 /// That the files of every case can be opened.
 pub(super) fn check_files(rt: &HostRuntime, cases: &[Case]) -> Result<(), Trouble> {
@@ -32,9 +60,16 @@ pub(super) fn check_files(rt: &HostRuntime, cases: &[Case]) -> Result<(), Troubl
     Ok(())
 }
 
-/// Writes the image back to the files that it came from: all of it beside them first, so that they stay as they are where it cannot be
-/// written. A raw image's spare places never change.
-fn save(rt: &HostRuntime, line: u32, source: &Source, medium: &Medium) -> Result<(), Trouble> {
+/// Writes the image back to the files that it came from, if it came from any: all of it beside them first, so that they stay as they
+/// are where it cannot be written. A raw image's spare places never change.
+fn write_back(
+    rt: &HostRuntime,
+    line: u32,
+    source: &Source,
+    medium: &Medium,
+) -> Result<Saved, Trouble>
+    ensures { IfOk result (λ saved. saved ≡ saved_of source.now medium.now) }
+{
     match (source, medium) {
         (
             Source::FlatFiles {
@@ -64,51 +99,90 @@ fn save(rt: &HostRuntime, line: u32, source: &Source, medium: &Medium) -> Result
             to.stage(rt, line, bytes.as_slice())?;
             to.replace(rt, line)?;
         }
-        _ => {
-            println!(rt; "save: no file")?;
-            return Ok(());
+        _ => return Ok(Saved::NoFile),
+    }
+    Ok(Saved::Written)
+}
+
+/// Saves the image, and tells what came of it.
+fn save<W: Write>(
+    rt: &HostRuntime,
+    out: &mut W,
+    line: u32,
+    source: &Source,
+    medium: &Medium,
+) -> Result<(), Trouble>
+    ensures { OnOk result (Appends (W.contents out.old) (W.contents out.new) (save_line source.now medium.now)) }
+{
+    let saved = write_back(rt, line, source, medium)?;
+    writeln!(out, "save: {saved}")?;
+    Ok(())
+}
+
+/// What a job on a case's pile came to: where its image was refused, that is printed.
+fn decided<W: Write>(
+    out: &mut W,
+    done: Result<Result<Outcome, Trouble>, Refusal>,
+) -> Result<Outcome, Trouble>
+    ensures { MatchResult done (λ outcome. (result ≡ outcome) × (W.contents out.new ≡ W.contents out.old)) (λ refusal. IfOk result (λ outcome. outcome ≡ Refused) × OnOk result (Appends (W.contents out.old) (W.contents out.new) (refused_line refusal))) }
+{
+    match done {
+        Ok(outcome) => outcome,
+        Err(refusal) => {
+            writeln!(out, "image: refused {refusal}")?;
+            Ok(Outcome::Refused)
         }
     }
-    println!(rt; "save: written")?;
-    Ok(())
 }
 
 impl CaseRun<'_> {
     /// One call after the device is off.
-    fn answer_off(self, source: &Source, medium: &mut Medium, call: &Call) -> Result<(), Trouble> {
+    fn answer_off<W: Write>(
+        self,
+        out: &mut W,
+        source: &Source,
+        medium: &mut Medium,
+        call: &Call,
+    ) -> Result<(), Trouble> {
         match &call.act {
             Act::Blocks { first, count } => {
                 let first = *first;
                 let count = *count;
-                self.on_pile(medium, Show { first, count })?;
+                let shown = self.on_pile(medium, Show { out: &mut *out, first, count });
+                decided(out, shown)?;
                 Ok(())
             }
-            Act::Save => save(self.rt, call.line, source, medium),
-            act => say::nothing(self.rt, act),
+            Act::Save => save(self.rt, out, call.line, source, medium),
+            act => say::nothing(out, act),
         }
     }
 
     /// The calls from the first `off` on, of a case that had a device.
-    fn finish(self, source: &Source, medium: &mut Medium) -> Result<(), Trouble> {
+    fn finish<W: Write>(
+        self,
+        out: &mut W,
+        source: &Source,
+        medium: &mut Medium,
+    ) -> Result<(), Trouble> {
         if !self.case.off.is_empty() {
-            println!(self.rt; "off: settled")?;
+            writeln!(out, "off: settled")?;
         }
         for call in self.case.off.iter().skip(1) {
-            self.answer_off(source, medium, call)?;
+            self.answer_off(out, source, medium, call)?;
         }
         Ok(())
     }
 
     /// The calls of a case that has no device.
-    fn decline(self) -> Result<(), Trouble> {
-        for call in self.case.on.iter().chain(self.case.off.iter()) {
-            say::nothing(self.rt, &call.act)?;
-        }
-        Ok(())
+    fn decline<W: Write>(self, out: &mut W) -> Result<(), Trouble>
+        ensures { OnOk result (Appends (W.contents out.old) (W.contents out.new) (nothing_lines (calls_on self.entry.case.now) ++ nothing_lines (calls_off self.entry.case.now))) }
+    {
+        say::nothing_of(out, self.case.on.as_slice())?;
+        say::nothing_of(out, self.case.off.as_slice())
     }
 
     /// Carries the case out, if it has any call.
-    fn run(self) -> Result<(), Trouble> {
+    fn run<W: Write>(self, out: &mut W) -> Result<(), Trouble> {
         let Some(first) = self.case.first() else {
             return Ok(());
         };
@@ -123,17 +197,18 @@ impl CaseRun<'_> {
             .ok_or_else(|| spot.trouble("a call, and no image to make it on"))?;
         let mut medium = load(self.rt, source)?;
         prepare(&mut medium, plan.fills.as_slice());
-        match self.on_pile(&mut medium, Serve)? {
-            Outcome::Served => self.finish(source, &mut medium),
-            Outcome::Refused => self.decline(),
+        let served = self.on_pile(&mut medium, Serve(&mut *out));
+        match decided(out, served)? {
+            Outcome::Served => self.finish(out, source, &mut medium),
+            Outcome::Refused => self.decline(out),
         }
     }
 }
 
 /// Carries out each case in turn.
-pub(super) fn run(rt: &HostRuntime, cases: &[Case]) -> Result<(), Trouble> {
+pub(super) fn run<W: Write>(rt: &HostRuntime, out: &mut W, cases: &[Case]) -> Result<(), Trouble> {
     for case in cases {
-        CaseRun { rt, case }.run()?;
+        CaseRun { rt, case }.run(out)?;
     }
     Ok(())
 }

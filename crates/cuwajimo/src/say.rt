@@ -1,13 +1,15 @@
-ghost use Rattle.std.specs.Prelude.{◌≡◌, Some, take};
+ghost use Rattle.std.specs.Prelude.{◌≡◌, OnOk, Some, take};
+ghost use Rattle.std.specs.Io.KnownBytes.{Appends};
+ghost use Rattle.cuwajimo.specs.Printed.{needed, nothing_line, nothing_lines};
 ghost use Rattle.cuwajimo.specs.Answers.{host_said, told_words, lent_words, hex_text, met_words, parameters_words, done_words, goes_on, tells_buffer, wanted, lends};
 
-use super::call::{Act, HostAct};
+use super::call::{Act, Call, HostAct};
 use super::fnv::Sum;
 use super::trouble::Trouble;
 use desk::answer::Answer;
 use host::fault::HostFault;
 use message::parameters::Parameters;
-use std::fmt;
+use std::{fmt, io};
 use transfer::report::REPORT_BYTES;
 
 /// What a host's call came to: `segment 0: more, buffer 8192 9f5c2a0e4d7b8316`.
@@ -187,11 +189,33 @@ impl HostAct {
     }
 }
 
+impl Act {
+    /// What it is asked of: the store that is left after `off`, or the device.
+    fn needed(&self) -> &'static str
+        ensures { result.now ≡ needed self.now }
+    {
+        match self {
+            Act::Blocks { first: _, count: _ } | Act::Save => "store",
+            _ => "device",
+        }
+    }
+}
+
 /// What a call prints for which there is no device, or no store.
-pub(super) fn nothing(rt: &HostRuntime, act: &Act) -> Result<(), Trouble> {
-    match act {
-        Act::Blocks { first: _, count: _ } | Act::Save => println!(rt; "{act}: no store")?,
-        _ => println!(rt; "{act}: no device")?,
+pub(super) fn nothing<W: io::Write>(out: &mut W, act: &Act) -> Result<(), Trouble>
+    ensures { OnOk result (Appends (W.contents out.old) (W.contents out.new) (nothing_line act.now)) }
+{
+    let needed = act.needed();
+    writeln!(out, "{act}: no {needed}")?;
+    Ok(())
+}
+
+/// The same of several calls, one after the other.
+pub(super) fn nothing_of<W: io::Write>(out: &mut W, calls: &[Call]) -> Result<(), Trouble>
+    ensures { OnOk result (Appends (W.contents out.old) (W.contents out.new) (nothing_lines calls.now)) }
+{
+    for call in calls {
+        nothing(out, &call.act)?;
     }
     Ok(())
 }

@@ -1,6 +1,9 @@
-ghost use Rattle.std.specs.Prelude.{◌≡◌, IfOk, OnOk, vec_items};
+ghost use Rattle.std.specs.Prelude.{◌≡◌, ◌++◌, IfOk, OnOk, Ok, codes, length, vec_items};
+ghost use Rattle.std.specs.Io.KnownBytes.{Appends};
 ghost use Rattle.desk.specs.Worlds.{at_end, at_start, comes_to, world};
-ghost use Rattle.cuwajimo.specs.Sessions.{act_left, all_left, host_left, host_made, lent, Serves};
+ghost use Rattle.cuwajimo.specs.Printed.{act_line, all_lines, device_line, host_line, line, served_lines, Serves};
+ghost use Rattle.cuwajimo.specs.Answers.{status_words};
+ghost use Rattle.cuwajimo.specs.Sessions.{act_left, all_left, host_left, host_made, lent};
 ghost use Rattle.cuwajimo.specs.declared.session.Outcome.TheVariants.{Served, Refused};
 
 use super::buffer::buffer;
@@ -15,6 +18,7 @@ use device::device::power_on;
 use flex::status::Status;
 use flex::unit_map::UnitMap;
 use std::alloc::Global;
+use std::io::Write;
 use store::store::Store;
 
 /// Whether there was a device.
@@ -58,15 +62,26 @@ fn make<S: Store>(session: &mut Session<S>, host: u8, act: &HostAct, buffer: &mu
     }
 }
 
+/// Units that make no map: there is no device.
+fn refuse<W: Write>(out: &mut W, status: Status) -> Result<Outcome, Trouble>
+    ensures outcome { IfOk result (λ outcome. outcome ≡ Refused) }
+    ensures printed { OnOk result (Appends (W.contents out.old) (W.contents out.new) (line (codes "map: refused " ++ status_words status))) }
+{
+    writeln!(out, "map: refused {status}")?;
+    Ok(Outcome::Refused)
+}
+
 impl CaseRun<'_> {
     /// One call of a host.
-    fn answer_host<S: Store>(
+    fn answer_host<S: Store, W: Write>(
         self,
+        out: &mut W,
         session: &mut Session<S>,
         host: u8,
         act: &HostAct,
     ) -> Result<(), Trouble>
-        ensures { OnOk result (world S.Store.blocks session.new ≡ host_left (world S.Store.blocks session.old) host act.now) }
+        ensures left { OnOk result (world S.Store.blocks session.new ≡ host_left (world S.Store.blocks session.old) host act.now) }
+        ensures printed { OnOk result (Appends (W.contents out.old) (W.contents out.new) (host_line (world S.Store.blocks session.old) host act.now)) }
     {
         let mut buffer = act.buffer(self.rt.alloc())?;
         let answer = make(session, host, act, buffer.as_mut_slice());
@@ -77,73 +92,87 @@ impl CaseRun<'_> {
             answer,
             buffer,
         };
-        println!(self.rt; "{said}")?;
+        writeln!(out, "{said}")?;
         Ok(())
     }
 
     /// One call while the device is on.
-    fn answer<S: Store>(self, session: &mut Session<S>, act: &Act) -> Result<(), Trouble>
-        ensures { OnOk result (world S.Store.blocks session.new ≡ act_left (world S.Store.blocks session.old) act.now) }
+    fn answer<S: Store, W: Write>(
+        self,
+        out: &mut W,
+        session: &mut Session<S>,
+        act: &Act,
+    ) -> Result<(), Trouble>
+        ensures left { OnOk result (world S.Store.blocks session.new ≡ act_left (world S.Store.blocks session.old) act.now) }
+        ensures printed { OnOk result (Appends (W.contents out.old) (W.contents out.new) (act_line (world S.Store.blocks session.old) act.now)) }
     {
         match act {
-            Act::Host { host, act } => self.answer_host(session, *host, act),
+            Act::Host { host, act } => self.answer_host(out, session, *host, act),
             Act::Locks => {
-                println!(self.rt; "{}", Holders::of(session))?;
+                let holders = Holders::of(session);
+                writeln!(out, "{holders}")?;
                 Ok(())
             }
             Act::Activity => {
-                println!(self.rt; "activity: {}", session.activity())?;
+                let activity = session.activity();
+                writeln!(out, "activity: {activity}")?;
                 Ok(())
             }
-            _ => nothing(self.rt, act),
+            _ => nothing(out, act),
         }
     }
 
-    /// The device's own line, and then each call before `off`.
-    fn answer_all<S: Store>(self, session: &mut Session<S>) -> Result<Outcome, Trouble>
-        ensures outcome { IfOk result (λ outcome. outcome ≡ Served) }
-        ensures left { OnOk result (world S.Store.blocks session.new ≡ all_left (world S.Store.blocks session.old) (vec_items self.entry.case.now.on)) }
+    /// The device's own line.
+    fn announce<W: Write>(self, out: &mut W, blocks: u32) -> Result<(), Trouble>
+        ensures { OnOk result (Appends (W.contents out.old) (W.contents out.new) (device_line self.entry.case.now.plan.device (length (vec_items self.entry.case.now.plan.units)) blocks)) }
     {
         let number = self.case.plan.device;
         let units = self.case.plan.units.len();
-        let blocks = session.size();
-        println!(self.rt; "device {number}: {units} units, {blocks} blocks")?;
+        writeln!(out, "device {number}: {units} units, {blocks} blocks")?;
+        Ok(())
+    }
+
+    /// The device's own line, and then each call before `off`.
+    fn answer_all<S: Store, W: Write>(
+        self,
+        out: &mut W,
+        session: &mut Session<S>,
+    ) -> Result<Outcome, Trouble>
+        ensures outcome { IfOk result (λ outcome. outcome ≡ Served) }
+        ensures printed { OnOk result (Appends (W.contents out.old) (W.contents out.new) (device_line self.entry.case.now.plan.device (length (vec_items self.entry.case.now.plan.units)) (length (S.Store.blocks session.old.device.store)) ++ all_lines (world S.Store.blocks session.old) (vec_items self.entry.case.now.on))) }
+        ensures left { OnOk result (world S.Store.blocks session.new ≡ all_left (world S.Store.blocks session.old) (vec_items self.entry.case.now.on)) }
+    {
+        self.announce(out, session.size())?;
         for call in self.case.on.iter() {
-            self.answer(session, &call.act)?;
+            self.answer(out, session, &call.act)?;
         }
         Ok(Outcome::Served)
     }
 
     /// Powers the device on over the store, answers the calls, and powers it off.
-    fn serve_on<S: Store>(self, map: UnitMap, store: S) -> Ended<S>
+    fn serve_on<S: Store, W: Write>(self, out: &mut W, map: UnitMap, store: S) -> Ended<S>
         ensures outcome { IfOk result.outcome (λ outcome. outcome ≡ Served) }
+        ensures printed { OnOk result.outcome (Appends (W.contents out.old) (W.contents out.new) (served_lines (Ok map) self.entry.case.now.plan (S.Store.blocks store) (vec_items self.entry.case.now.on))) }
         ensures left { OnOk result.outcome (S.Store.blocks result.store ≡ (at_end (all_left (at_start self.entry.case.now.plan.device map (S.Store.blocks store)) (vec_items self.entry.case.now.on))).blocks) }
     {
         let mut session = Session::new(power_on(self.case.plan.device, map, store));
-        let outcome = self.answer_all(&mut session);
+        let outcome = self.answer_all(out, &mut session);
         Ended {
             store: session.power_off(),
             outcome,
         }
     }
 
-    fn refuse(self, status: Status) -> Result<Outcome, Trouble>
-        ensures { IfOk result (λ outcome. outcome ≡ Refused) }
-    {
-        println!(self.rt; "map: refused {status}")?;
-        Ok(Outcome::Refused)
-    }
-
     /// The case's calls before `off`, on a device over the store if its units make a map.
-    pub(super) fn serve<S: Store>(self, store: S) -> Ended<S>
-        ensures { IfOk result.outcome (λ outcome. Serves self.entry.case.now (S.Store.blocks store) outcome (S.Store.blocks result.store)) }
+    pub(super) fn serve<S: Store, W: Write>(self, out: &mut W, store: S) -> Ended<S>
+        ensures { IfOk result.outcome (λ outcome. Serves self.entry.case.now (S.Store.blocks store) outcome (S.Store.blocks result.store) (W.contents out.old) (W.contents out.new)) }
     {
         let plan = &self.case.plan;
         match UnitMap::new(plan.units.as_slice(), plan.end) {
-            Ok(map) => self.serve_on(map, store),
+            Ok(map) => self.serve_on(out, map, store),
             Err(status) => Ended {
                 store,
-                outcome: self.refuse(status),
+                outcome: refuse(out, status),
             },
         }
     }

@@ -5,4 +5,4 @@ use Rattle.cuwajimo.proofs.holders.Holders.of.Given as goal
 
 abbrev pub invariant-loop-unit : goal.invariant-loop-unit
 invariant-loop-unit g l =
-    (length l.units ≡ 15) × ((k : ℕ) → k < l.unit → get_or l.units k None ≡ first_holder l.session.device.controller (locks.Unit k))
+    (length l.units ≡ 15) × ((k : ℕ) → k < l.unit → get_or l.units k None ≡ first_holder l.session.device.controller.hosts (locks.Unit k))

@@ -1,0 +1,121 @@
+-- What the calls of a case print.
+use Rattle.std.specs.Prelude.{◌≡◌, ℕ, zero, suc, ◌+◌, List, [], ◌∷◌, ◌++◌, length, codes, decimal, Ok, Err, Option, Result, vec_items}
+use Rattle.std.specs.Io.KnownBytes.{Appends}
+use Rattle.store.specs.Blocks.{Block}
+use Rattle.flex.specs.declared.status.Status.{Status}
+use Rattle.flex.specs.declared.unit_map.UnitMap.{UnitMap}
+use Rattle.flex.specs.Maps.{Makes}
+use Rattle.desk.specs.Worlds.{World, Made, at_start}
+use Rattle.image.specs.declared.refusal.Refusal.{Refusal}
+use Rattle.image.specs.Refusals.{refusal_text}
+use Rattle.cuwajimo.specs.declared.call.Act.{Act}
+use Rattle.cuwajimo.specs.declared.call.Act.TheVariants as acts
+use Rattle.cuwajimo.specs.declared.call.Call.{Call}
+use Rattle.cuwajimo.specs.declared.call.HostAct.{HostAct}
+use Rattle.cuwajimo.specs.declared.case.Case.{Case}
+use Rattle.cuwajimo.specs.declared.plan.Plan.{Plan}
+use Rattle.cuwajimo.specs.declared.medium.Medium.{Medium}
+use Rattle.cuwajimo.specs.declared.medium.Medium.TheVariants as media
+use Rattle.cuwajimo.specs.declared.plan.Source.{Source}
+use Rattle.cuwajimo.specs.declared.plan.Source.TheVariants as sources
+use Rattle.cuwajimo.specs.declared.run.Saved.{Saved}
+use Rattle.cuwajimo.specs.declared.run.Saved.TheVariants as saves
+use Rattle.cuwajimo.specs.declared.session.Outcome.{Outcome}
+use Rattle.cuwajimo.specs.Answers.{host_words, status_words}
+use Rattle.cuwajimo.specs.Calls.{act_name}
+use Rattle.cuwajimo.specs.Holders.{holders_of, holders_words}
+use Rattle.cuwajimo.specs.Sessions.{lent, host_made, act_left, blocks_left, outcome_of}
+use Rattle.cuwajimo.specs.Shown.{block_said, shown_at}
+
+-- A line ends with a line feed.
+abbrev pub line : List ℕ → List ℕ
+line words = words ++ 10 ∷ []
+
+-- What a call is asked of: `blocks` and `save` of the store that is left after `off`, any other of the device.
+abbrev pub needed : Act → List ℕ
+needed (acts.Host h act) = codes "device"
+needed acts.Locks = codes "device"
+needed acts.Activity = codes "device"
+needed acts.Off = codes "device"
+needed (acts.Blocks first count) = codes "store"
+needed acts.Save = codes "store"
+
+-- A call for which there is no store, or no device.
+abbrev pub nothing_line : Act → List ℕ
+nothing_line act = line (act_name act ++ (codes ": no " ++ needed act))
+
+-- Several calls, one after the other.
+abbrev pub nothing_lines : List Call → List ℕ
+nothing_lines [] = []
+nothing_lines (call ∷ calls) = nothing_line call.act ++ nothing_lines calls
+
+-- An image that is refused: with which status.
+abbrev pub refused_line : Refusal → List ℕ
+refused_line refusal = line (codes "image: refused " ++ refusal_text refusal)
+
+-- A host's call that has come to this.
+abbrev pub made_line : ℕ → HostAct → Made → List ℕ
+made_line h act m = line (host_words h act m.answer m.buffer)
+
+-- A host's call, made with the buffer that it lends.
+abbrev pub host_line : World → ℕ → HostAct → List ℕ
+host_line w h act = made_line h act (host_made w h act (lent act))
+
+-- A call while the device is on: who holds its locks, how many blocks were asked for, and for `blocks` and `save` that there is no store.
+abbrev pub act_line : World → Act → List ℕ
+act_line w (acts.Host h act) = host_line w h act
+act_line w acts.Locks = line (holders_words (holders_of w.state.hosts))
+act_line w acts.Activity = line (codes "activity: " ++ decimal w.state.activity)
+act_line w acts.Off = nothing_line acts.Off
+act_line w (acts.Blocks first count) = nothing_line (acts.Blocks first count)
+act_line w acts.Save = nothing_line acts.Save
+
+-- The calls of a case, one after the other.
+abbrev pub all_lines : World → List Call → List ℕ
+all_lines w [] = []
+all_lines w (call ∷ calls) = act_line w call.act ++ all_lines (act_left w call.act) calls
+
+-- The device's own line: its number, how many units the map has, and how many blocks the pile.
+abbrev pub device_line : ℕ → ℕ → ℕ → List ℕ
+device_line number units blocks = line (codes "device " ++ (decimal number ++ (codes ": " ++ (decimal units ++ (codes " units, " ++ (decimal blocks ++ codes " blocks"))))))
+
+-- A case whose units make a map: the device's line, and one for each call before `off`. Where they make none: with which status it is refused.
+abbrev pub served_lines : Result UnitMap Status → Plan → List Block → List Call → List ℕ
+served_lines (Ok map) plan blocks calls = device_line plan.device (length (vec_items plan.units)) (length blocks) ++ all_lines (at_start plan.device map blocks) calls
+served_lines (Err status) plan blocks calls = line (codes "map: refused " ++ status_words status)
+
+-- Block n of a pile.
+abbrev pub block_line : List Block → ℕ → List ℕ
+block_line blocks n = line (block_said (record { block = n; shown = shown_at blocks n }))
+
+-- So many blocks of a pile from the first on: all but the last, and the last.
+abbrev pub block_lines : List Block → ℕ → ℕ → List ℕ
+block_lines blocks first zero = []
+block_lines blocks first (suc n) = block_lines blocks first n ++ block_line blocks (first + n)
+
+-- An image that came from files is written back to them, and any other to none.
+abbrev pub saved_of : Source → Medium → Saved
+saved_of (sources.Flat blocks) medium = saves.NoFile
+saved_of (sources.FlatFiles bytes damage) (media.Flat memory map) = saves.Written
+saved_of (sources.FlatFiles bytes damage) (media.Raw memory spares records) = saves.NoFile
+saved_of (sources.Raw records spares) medium = saves.NoFile
+saved_of (sources.RawFiles bytes spares records) (media.Flat memory map) = saves.NoFile
+saved_of (sources.RawFiles bytes spares records) (media.Raw memory places counted) = saves.Written
+
+-- The word for what came of a `save`.
+abbrev pub saved_word : Saved → List ℕ
+saved_word saves.Written = codes "written"
+saved_word saves.NoFile = codes "no file"
+
+-- A `save` of an image that is in this memory.
+abbrev pub save_line : Source → Medium → List ℕ
+save_line source medium = line (codes "save: " ++ saved_word (saved_of source medium))
+
+-- A case served over a store of these blocks: by the map that its units make, or by none, the outcome, the blocks after its calls before `off`,
+-- and what is printed, by what an output is known to hold before and after.
+pub record Serves (case : Case) (blocks : List Block) (outcome : Outcome) (after : List Block) (old new : Option (List ℕ)) : Type 0 where
+  pub map : Result UnitMap Status
+  pub made : Makes (vec_items case.plan.units) case.plan.end map
+  pub ended : outcome ≡ outcome_of map
+  pub left : after ≡ blocks_left map case.plan.device blocks (vec_items case.on)
+  pub printed : Appends old new (served_lines map case.plan blocks (vec_items case.on))
