@@ -17,3 +17,4 @@ mod Sessions
 mod Filling
 mod Held
 mod Printed
+mod Running

@@ -1,7 +1,10 @@
 -- The memory of an image that the program makes by itself.
 use Rattle.std.specs.Prelude.{◌≡◌, ℕ, ◌+◌, ◌-◌, ◌*◌, ◌/◌, ◌^◌, min, cond, List, [], ◌∷◌, length, replicate, vec_items, Option, nat_le}
-use Rattle.flat.specs.Flat.{flat_count}
-use Rattle.raw.specs.Raw.{raw_count}
+use Rattle.store.specs.declared.fault.Protection.{Protection}
+use Rattle.store.specs.Blocks.{Block}
+use Rattle.image.specs.declared.refusal.Refusal.{Refusal}
+use Rattle.flat.specs.Flat.{flat_count, flat_offered, flat_refusal}
+use Rattle.raw.specs.Raw.{raw_count, raw_offered, raw_refusal}
 use Rattle.cuwajimo.specs.declared.medium.Medium.{Medium}
 use Rattle.cuwajimo.specs.declared.medium.Medium.TheVariants.{Flat, Raw}
 
@@ -9,6 +12,16 @@ use Rattle.cuwajimo.specs.declared.medium.Medium.TheVariants.{Flat, Raw}
 abbrev pub medium_count : Medium → Option ℕ
 medium_count (Flat bytes damage) = flat_count (length (vec_items bytes)) (length (vec_items damage))
 medium_count (Raw bytes spares records) = raw_count (length (vec_items bytes)) (length (vec_items spares)) records
+
+-- Why the memory is refused as an image, if it is.
+abbrev pub medium_refusal : Medium → Option Refusal
+medium_refusal (Flat bytes damage) = flat_refusal (length (vec_items bytes)) (length (vec_items damage))
+medium_refusal (Raw bytes spares records) = raw_refusal (length (vec_items bytes)) (vec_items spares) records
+
+-- The blocks of the memory as an image with this protection: none where it is refused.
+abbrev pub medium_offered : Medium → Protection → List Block
+medium_offered (Flat bytes damage) protection = flat_offered (vec_items bytes) (vec_items damage) protection
+medium_offered (Raw bytes spares records) protection = raw_offered (vec_items bytes) (vec_items spares) records protection
 
 -- A flat image of n blocks in memory: 256 bytes for each and a map of a bit for each, all zero. Of more blocks than an image may have
 -- nothing is made but a map of one byte, which fits no image.

@@ -1,11 +1,14 @@
 -- What the building lines of a case ask for.
-use Rattle.std.specs.Prelude.{◌≡◌, true, false, [], ◌∷◌, ◌++◌, is_some, Some, None, Ok, Err, vec_items, Option, Result}
+use Rattle.std.specs.Prelude.{◌≡◌, true, false, [], ◌∷◌, ◌++◌, is_some, Some, None, Ok, Err, List, vec_items, Option, Result}
 use Rattle.std.specs.Option.{unwrap_or}
 use Rattle.store.specs.declared.fault.Protection.TheVariants as protections
 use Rattle.layer.specs.declared.run.Run.{Run}
 use Rattle.layer.specs.Runs.{no_blocks, all_blocks}
 use Rattle.layer.specs.declared.window.Window.{Window}
 use Rattle.layer.specs.declared.guard.WriteGuard.{WriteGuard}
+use Rattle.layer.specs.Guards.{guard}
+use Rattle.layer.specs.Windows.{window}
+use Rattle.store.specs.Blocks.{Block}
 use Rattle.cuwajimo.specs.declared.plan.Fill.{Fill}
 use Rattle.cuwajimo.specs.declared.plan.Plan.{Plan}
 use Rattle.cuwajimo.specs.declared.trouble.Trouble.{Trouble}
@@ -22,6 +25,10 @@ guarded_run plan = unwrap_or plan.guard no_blocks
 -- The pile under the cache: the image, then the window, then the write guard.
 abbrev pub layers : {S : Type 0} → Plan → S → WriteGuard (Window S)
 layers plan image = record { below = record { below = image; run = shown_run plan }; run = guarded_run plan }
+
+-- The blocks that the whole pile shows of an image's: those of the window, the guarded ones protected. A cache shows the same.
+abbrev pub pile_blocks : Plan → List Block → List Block
+pile_blocks plan blocks = guard (window blocks (shown_run plan)) (guarded_run plan)
 
 -- The plan has neither a window line nor a guard line.
 abbrev pub NoLayer : Plan → Type 0

@@ -1,5 +1,5 @@
 -- What the calls of a case print.
-use Rattle.std.specs.Prelude.{◌≡◌, ℕ, zero, suc, ◌+◌, List, [], ◌∷◌, ◌++◌, length, codes, decimal, Ok, Err, Option, Result, vec_items}
+use Rattle.std.specs.Prelude.{◌≡◌, ◌⊎◌, ℕ, zero, suc, ◌+◌, List, [], ◌∷◌, ◌++◌, length, codes, decimal, Some, None, Ok, Err, Option, Result, vec_items}
 use Rattle.std.specs.Io.KnownBytes.{Appends}
 use Rattle.store.specs.Blocks.{Block}
 use Rattle.flex.specs.declared.status.Status.{Status}
@@ -22,8 +22,11 @@ use Rattle.cuwajimo.specs.declared.run.Saved.{Saved}
 use Rattle.cuwajimo.specs.declared.run.Saved.TheVariants as saves
 use Rattle.cuwajimo.specs.declared.session.Outcome.{Outcome}
 use Rattle.cuwajimo.specs.Answers.{host_words, status_words}
-use Rattle.cuwajimo.specs.Calls.{act_name}
+use Rattle.cuwajimo.specs.Calls.{act_name, calls_off, calls_on}
+use Rattle.cuwajimo.specs.Scripts.{HasNoCall}
 use Rattle.cuwajimo.specs.Holders.{holders_of, holders_words}
+use Rattle.cuwajimo.specs.Media.{medium_offered, medium_refusal}
+use Rattle.cuwajimo.specs.Plans.{pile_blocks}
 use Rattle.cuwajimo.specs.Sessions.{lent, host_made, act_left, blocks_left, outcome_of}
 use Rattle.cuwajimo.specs.Shown.{block_said, shown_at}
 
@@ -111,6 +114,36 @@ saved_word saves.NoFile = codes "no file"
 abbrev pub save_line : Source → Medium → List ℕ
 save_line source medium = line (codes "save: " ++ saved_word (saved_of source medium))
 
+-- Blocks of a pile over an image, unless the image is refused.
+abbrev pub shown_lines : Option Refusal → List Block → ℕ → ℕ → List ℕ
+shown_lines None blocks first count = block_lines blocks first count
+shown_lines (Some refusal) blocks first count = refused_line refusal
+
+-- A call after `off`, over an image that is in this memory: `blocks` shows the pile's, `save` tells whether it was written, and for any other there is
+-- no device.
+abbrev pub off_lines : Plan → Source → Medium → Act → List ℕ
+off_lines plan source medium (acts.Host h act) = nothing_line (acts.Host h act)
+off_lines plan source medium acts.Locks = nothing_line acts.Locks
+off_lines plan source medium acts.Activity = nothing_line acts.Activity
+off_lines plan source medium acts.Off = nothing_line acts.Off
+off_lines plan source medium (acts.Blocks first count) = shown_lines (medium_refusal medium) (pile_blocks plan (medium_offered medium plan.protection)) first count
+off_lines plan source medium acts.Save = save_line source medium
+
+-- What is printed is some text that is as it should be.
+abbrev pub Prints : (List ℕ → Type 0) → Option (List ℕ) → Option (List ℕ) → Type 0
+Prints Is old new = (text : List ℕ) × Is text × Appends old new text
+
+-- The calls after `off`, one after the other, each over what is then in the image's memory. Which bytes that has after a call is not said: a store is
+-- known by its blocks.
+abbrev pub AfterOff : Plan → Source → Medium → List Call → List ℕ → Type 0
+AfterOff plan source medium [] text = text ≡ []
+AfterOff plan source medium (call ∷ calls) text = (then : Medium) × (rest : List ℕ) × AfterOff plan source then calls rest × (text ≡ off_lines plan source medium call.act ++ rest)
+
+-- The calls from `off` on, if there are any: that the pile is settled, and then those after it.
+abbrev pub FromOff : Plan → Source → Medium → List Call → List ℕ → Type 0
+FromOff plan source medium [] text = text ≡ []
+FromOff plan source medium (call ∷ calls) text = (rest : List ℕ) × AfterOff plan source medium calls rest × (text ≡ line (codes "off: settled") ++ rest)
+
 -- A case served over a store of these blocks: by the map that its units make, or by none, the outcome, the blocks after its calls before `off`,
 -- and what is printed, by what an output is known to hold before and after.
 pub record Serves (case : Case) (blocks : List Block) (outcome : Outcome) (after : List Block) (old new : Option (List ℕ)) : Type 0 where
@@ -119,3 +152,34 @@ pub record Serves (case : Case) (blocks : List Block) (outcome : Outcome) (after
   pub ended : outcome ≡ outcome_of map
   pub left : after ≡ blocks_left map case.plan.device blocks (vec_items case.on)
   pub printed : Appends old new (served_lines map case.plan blocks (vec_items case.on))
+
+-- The calls of a case that has no device.
+abbrev pub declined_lines : Case → List ℕ
+declined_lines case = nothing_lines (calls_on case) ++ nothing_lines (calls_off case)
+
+-- What is printed after the calls before `off`: with a device the calls from `off` on, over what is then in the image's memory; without one, that
+-- there is none.
+abbrev pub AfterServed : Result UnitMap Status → Case → Source → List ℕ → Type 0
+AfterServed (Ok map) case source text = (then : Medium) × FromOff case.plan source then (calls_off case) text
+AfterServed (Err status) case source text = text ≡ declined_lines case
+
+-- What a case prints whose image is in this memory: that it is refused; or what its device answers, or that its units make no map.
+abbrev pub RunOver : Option Refusal → Case → Source → Medium → List ℕ → Type 0
+RunOver (Some refusal) case source medium text = text ≡ refused_line refusal ++ declined_lines case
+RunOver None case source medium text =
+    (map : Result UnitMap Status)
+    × Makes (vec_items case.plan.units) case.plan.end map
+    × (rest : List ℕ)
+    × AfterServed map case source rest
+    × (text ≡ served_lines map case.plan (pile_blocks case.plan (medium_offered medium case.plan.protection)) (calls_on case) ++ rest)
+
+-- What a case prints: nothing, where it has no call; else what it prints over the memory that its image was brought into.
+abbrev pub IsRun : Case → List ℕ → Type 0
+IsRun case text =
+    (HasNoCall case × (text ≡ []))
+    ⊎ ((source : Source) × (case.plan.source ≡ Some source) × (medium : Medium) × RunOver (medium_refusal medium) case source medium text)
+
+-- The cases of a script, one after the other.
+abbrev pub AreRun : List Case → List ℕ → Type 0
+AreRun [] text = text ≡ []
+AreRun (case ∷ cases) text = (first : List ℕ) × (rest : List ℕ) × IsRun case first × AreRun cases rest × (text ≡ first ++ rest)

@@ -3,7 +3,7 @@ ghost use Rattle.image.specs.Images.{harmed};
 ghost use Rattle.cuwajimo.specs.Bytes.{pattern_byte, pattern_block};
 ghost use Rattle.cuwajimo.specs.Fills.{patterned, harmed_all, filled, filled_all};
 
-use super::medium::{Medium, OnImage};
+use super::medium::Medium;
 use super::plan::Fill;
 use flat::flat::FlatImage;
 use raw::raw::RawImage;
@@ -84,19 +84,24 @@ fn apply_all<S: Mark>(image: &mut S, fills: &[Fill])
     }
 }
 
-/// What the lines ask of the image, as a job.
-#[derive(Drop)]
-struct Fills<'a>(&'a [Fill]);
-
-impl OnImage for Fills<'_> {
-    type Done = ();
-
-    fn perform<S: Mark + Drop>(self, mut image: S) {
-        apply_all(&mut image, self.0);
-    }
-}
-
-/// Fills the image and marks its blocks, protected or not. An image that is refused has no blocks to fill.
+/// Does what each line asks of the image that the memory is, protected or not. Memory that is refused has no blocks to fill.
 pub(super) fn prepare(medium: &mut Medium, fills: &[Fill]) {
-    let _ = medium.open(Protection::Open, Fills(fills));
+    match medium {
+        Medium::Flat { bytes, damage } => {
+            let (bytes, damage) = (bytes.as_mut_slice(), damage.as_mut_slice());
+            if let Ok(mut image) = FlatImage::open(bytes, damage, Protection::Open) {
+                apply_all(&mut image, fills);
+            }
+        }
+        Medium::Raw {
+            bytes,
+            spares,
+            records,
+        } => {
+            let (bytes, spares) = (bytes.as_mut_slice(), spares.as_slice());
+            if let Ok(mut image) = RawImage::open(bytes, spares, *records, Protection::Open) {
+                apply_all(&mut image, fills);
+            }
+        }
+    }
 }

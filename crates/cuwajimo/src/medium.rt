@@ -1,15 +1,11 @@
 ghost use Rattle.std.specs.Prelude.{◌≡◌, IfOk, if◌then◌else◌, Some, None, nat_le};
 ghost use Rattle.cuwajimo.specs.Media.{ZeroFlat, capped_bytes, ZeroRaw, medium_count};
 
-use super::fill::Mark;
 use super::plan::Source;
 use super::trouble::Trouble;
-use flat::flat::FlatImage;
 use image::check::may_have;
-use image::refusal::Refusal;
-use raw::raw::RawImage;
 use std::alloc::Global;
-use store::fault::{BLOCK_BYTES, Protection};
+use store::fault::BLOCK_BYTES;
 
 /// How many bytes a record of a raw image has, and how many records a track may have.
 const RECORD_BYTES: usize = 276;
@@ -96,46 +92,6 @@ pub(super) fn load(rt: &HostRuntime, source: &Source) -> Result<Medium, Trouble>
                 spares: spares.contents(rt)?,
                 records: *records,
             })
-        }
-    }
-}
-
-/// What is done with an image while it stands, of whichever kind it is.
-pub(super) trait OnImage {
-    type Done;
-
-    fn perform<S: Mark + Drop>(self, image: S) -> Self::Done;
-}
-
-impl Medium {
-    /// Opens the image and does the job on it, or says why it is refused.
-    pub(super) fn open<J: OnImage + Drop>(
-        &mut self,
-        protection: Protection,
-        job: J,
-    ) -> Result<J::Done, Refusal> {
-        match self {
-            Medium::Flat { bytes, damage } => {
-                let image = FlatImage::open(
-                    bytes.as_mut_slice(),
-                    damage.as_mut_slice(),
-                    protection,
-                )?;
-                Ok(job.perform(image))
-            }
-            Medium::Raw {
-                bytes,
-                spares,
-                records,
-            } => {
-                let image = RawImage::open(
-                    bytes.as_mut_slice(),
-                    spares.as_slice(),
-                    *records,
-                    protection,
-                )?;
-                Ok(job.perform(image))
-            }
         }
     }
 }

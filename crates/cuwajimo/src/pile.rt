@@ -1,22 +1,29 @@
-ghost use Rattle.std.specs.Prelude.{◌≡◌, OnOk, Some};
+ghost use Rattle.std.specs.Prelude.{◌≡◌, ℕ, List, Option, Result, IfOk, MatchResult, OnOk, Some};
 ghost use Rattle.std.specs.Io.KnownBytes.{Appends};
+ghost use Rattle.std.specs.Result.{result_err};
+ghost use Rattle.store.specs.Blocks.{Block};
 ghost use Rattle.layer.specs.Guards.{guarded};
 ghost use Rattle.layer.specs.Windows.{windowed};
-ghost use Rattle.cuwajimo.specs.Plans.{layers, NoLayer};
-ghost use Rattle.cuwajimo.specs.Printed.{block_lines};
+ghost use Rattle.cuwajimo.specs.declared.case.Case.{Case};
+ghost use Rattle.cuwajimo.specs.declared.session.Outcome.{Outcome};
+ghost use Rattle.cuwajimo.specs.declared.trouble.Trouble.{Trouble};
+ghost use Rattle.cuwajimo.specs.Media.{medium_offered, medium_refusal};
+ghost use Rattle.cuwajimo.specs.Plans.{layers, pile_blocks, NoLayer};
+ghost use Rattle.cuwajimo.specs.Printed.{block_lines, Serves};
 ghost use Rattle.cuwajimo.specs.Shown.{block_said, protection_word, shown_at};
 
 use super::case::CaseRun;
-use super::fill::Mark;
 use super::fnv::Sum;
-use super::medium::{Medium, OnImage};
+use super::medium::Medium;
 use super::plan::Plan;
 use super::session::{Ended, Outcome};
 use super::trouble::Trouble;
 use cache::cache::Cache;
+use flat::flat::FlatImage;
 use image::refusal::Refusal;
 use layer::guard::WriteGuard;
 use layer::window::Window;
+use raw::raw::RawImage;
 use std::{fmt, io};
 use store::calls::fetch_block;
 use store::fault::Protection;
@@ -107,31 +114,42 @@ fn show_blocks<S: Store, W: io::Write>(
 
 /// What is done with a pile while it stands. The pile is handed back.
 pub(super) trait Job {
-    fn perform<S: Store>(self, run: CaseRun<'_>, store: S) -> Ended<S>;
+    // What it comes to: of a case, the pile's blocks before it, the outcome, the blocks after it, and what an output is known to hold before and after.
+    ghost comes: { Self → Case → List Block → Result Outcome Trouble → List Block → Option (List ℕ) → Option (List ℕ) → Type 0 };
+
+    fn perform<S: Store, W: io::Write>(&self, out: &mut W, run: CaseRun<'_>, store: S) -> Ended<S>
+        ensures { comes self.now run.entry.case.now (S.Store.blocks store) result.outcome (S.Store.blocks result.store) (W.contents out.old) (W.contents out.new) };
 }
 
 /// A device over the pile answers the calls before `off`.
-#[derive(Drop)]
-pub(super) struct Serve<'o, W>(pub(super) &'o mut W);
+#[derive(Clone, Copy)]
+pub(super) struct Serve;
 
-impl<W: io::Write> Job for Serve<'_, W> {
-    fn perform<S: Store>(self, run: CaseRun<'_>, store: S) -> Ended<S> {
-        run.serve(self.0, store)
+impl Job for Serve {
+    ghost comes = { λ job case before outcome after old new. IfOk outcome (λ o. Serves case before o after old new) };
+
+    fn perform<S: Store, W: io::Write>(&self, out: &mut W, run: CaseRun<'_>, store: S) -> Ended<S> {
+        run.serve(out, store)
     }
 }
 
 /// Blocks of the pile are shown.
-#[derive(Drop)]
-pub(super) struct Show<'o, W> {
-    pub(super) out: &'o mut W,
+#[derive(Clone, Copy)]
+pub(super) struct Show {
     pub(super) first: u32,
     pub(super) count: u32,
 }
 
-impl<W: io::Write> Job for Show<'_, W> {
-    fn perform<S: Store>(self, _run: CaseRun<'_>, mut store: S) -> Ended<S> {
-        let Show { out, first, count } = self;
-        let shown = show_blocks(out, &mut store, first, count);
+impl Job for Show {
+    ghost comes = { λ job case before outcome after old new. (after ≡ before) × OnOk outcome (Appends old new (block_lines before job.first job.count)) };
+
+    fn perform<S: Store, W: io::Write>(
+        &self,
+        out: &mut W,
+        _run: CaseRun<'_>,
+        mut store: S,
+    ) -> Ended<S> {
+        let shown = show_blocks(out, &mut store, self.first, self.count);
         Ended {
             store,
             outcome: shown.map(|_| Outcome::Served),
@@ -147,36 +165,53 @@ fn layered<S: Store>(plan: &Plan, image: S) -> WriteGuard<Window<S>>
     WriteGuard::new(Window::new(image, plan.shown()), plan.guarded())
 }
 
-/// A job on the case's whole pile over an image: window, write guard and, if its plan asks for one, a cache.
-#[derive(Drop)]
-struct OverImage<'a, J> {
-    run: CaseRun<'a>,
-    job: J,
-}
-
-impl<J: Job + Drop> OnImage for OverImage<'_, J> {
-    type Done = Result<Outcome, Trouble>;
-
-    fn perform<S: Mark + Drop>(self, image: S) -> Result<Outcome, Trouble> {
-        let plan = &self.run.case.plan;
+impl CaseRun<'_> {
+    /// Does a job on the case's whole pile over an image: window, write guard and, if its plan asks for one, a cache.
+    fn over_image<S: Store + Drop, J: Job, W: io::Write>(
+        self,
+        out: &mut W,
+        image: S,
+        job: &J,
+    ) -> Result<Outcome, Trouble>
+        ensures { (after : List Block) × J.comes job.now self.entry.case.now (pile_blocks self.entry.case.now.plan (S.Store.blocks image)) result after (W.contents out.old) (W.contents out.new) }
+    {
+        let plan = &self.case.plan;
         let below = layered(plan, image);
         if !plan.cache {
-            let Ended { store: _, outcome } = self.job.perform(self.run, below);
+            let Ended { store: _, outcome } = job.perform(out, self, below);
             return outcome;
         }
-        let Ended { store, outcome } = self.job.perform(self.run, Cache::new(below));
+        let Ended { store, outcome } = job.perform(out, self, Cache::new(below));
         drop(store.release());
         outcome
     }
-}
 
-impl CaseRun<'_> {
     /// Does a job on the pile that the plan asks for, unless its image is refused.
-    pub(super) fn on_pile<J: Job + Drop>(
+    pub(super) fn on_pile<J: Job, W: io::Write>(
         self,
+        out: &mut W,
         medium: &mut Medium,
-        job: J,
-    ) -> Result<Result<Outcome, Trouble>, Refusal> {
-        medium.open(self.case.plan.protection, OverImage { run: self, job })
+        job: &J,
+    ) -> Result<Result<Outcome, Trouble>, Refusal>
+        ensures refusal { result_err result ≡ medium_refusal medium.old }
+        ensures done { MatchResult result (λ outcome. (after : List Block) × J.comes job.now self.entry.case.now (pile_blocks self.entry.case.now.plan (medium_offered medium.old self.entry.case.now.plan.protection)) outcome after (W.contents out.old) (W.contents out.new)) (λ _. W.contents out.new ≡ W.contents out.old) }
+    {
+        let protection = self.case.plan.protection;
+        match medium {
+            Medium::Flat { bytes, damage } => {
+                let (bytes, damage) = (bytes.as_mut_slice(), damage.as_mut_slice());
+                let image = FlatImage::open(bytes, damage, protection)?;
+                Ok(self.over_image(out, image, job))
+            }
+            Medium::Raw {
+                bytes,
+                spares,
+                records,
+            } => {
+                let (bytes, spares) = (bytes.as_mut_slice(), spares.as_slice());
+                let image = RawImage::open(bytes, spares, *records, protection)?;
+                Ok(self.over_image(out, image, job))
+            }
+        }
     }
 }

@@ -2,7 +2,8 @@ ghost use Rattle.std.specs.Prelude.{◌≡◌, ◌++◌, IfOk, MatchResult, OnOk
 ghost use Rattle.std.specs.Io.KnownBytes.{Appends};
 ghost use Rattle.cuwajimo.specs.declared.session.Outcome.TheVariants.{Refused};
 ghost use Rattle.cuwajimo.specs.Calls.{calls_off, calls_on};
-ghost use Rattle.cuwajimo.specs.Printed.{nothing_lines, refused_line, save_line, saved_of, saved_word};
+ghost use Rattle.cuwajimo.specs.Media.{medium_refusal};
+ghost use Rattle.cuwajimo.specs.Printed.{AfterOff, AreRun, FromOff, IsRun, Prints, RunOver, nothing_lines, off_lines, refused_line, save_line, saved_of, saved_word};
 
 use super::call::{Act, Call};
 use super::case::{Case, CaseRun};
@@ -143,12 +144,14 @@ impl CaseRun<'_> {
         source: &Source,
         medium: &mut Medium,
         call: &Call,
-    ) -> Result<(), Trouble> {
+    ) -> Result<(), Trouble>
+        ensures { OnOk result (Appends (W.contents out.old) (W.contents out.new) (off_lines self.entry.case.now.plan source.now medium.old call.now.act)) }
+    {
         match &call.act {
             Act::Blocks { first, count } => {
                 let first = *first;
                 let count = *count;
-                let shown = self.on_pile(medium, Show { out: &mut *out, first, count });
+                let shown = self.on_pile(out, medium, &Show { first, count });
                 decided(out, shown)?;
                 Ok(())
             }
@@ -157,20 +160,36 @@ impl CaseRun<'_> {
         }
     }
 
+    /// Calls after the device is off, one after the other.
+    fn answer_all_off<W: Write>(
+        self,
+        out: &mut W,
+        source: &Source,
+        medium: &mut Medium,
+        calls: &[Call],
+    ) -> Result<(), Trouble>
+        ensures { OnOk result (Prints (AfterOff self.entry.case.now.plan source.now medium.old calls.now) (W.contents out.old) (W.contents out.new)) }
+    {
+        for call in calls {
+            self.answer_off(out, source, medium, call)?;
+        }
+        Ok(())
+    }
+
     /// The calls from the first `off` on, of a case that had a device.
     fn finish<W: Write>(
         self,
         out: &mut W,
         source: &Source,
         medium: &mut Medium,
-    ) -> Result<(), Trouble> {
-        if !self.case.off.is_empty() {
-            writeln!(out, "off: settled")?;
-        }
-        for call in self.case.off.iter().skip(1) {
-            self.answer_off(out, source, medium, call)?;
-        }
-        Ok(())
+    ) -> Result<(), Trouble>
+        ensures { OnOk result (Prints (FromOff self.entry.case.now.plan source.now medium.old (calls_off self.entry.case.now)) (W.contents out.old) (W.contents out.new)) }
+    {
+        let Some((_, after)) = self.case.off.as_slice().split_first() else {
+            return Ok(());
+        };
+        writeln!(out, "off: settled")?;
+        self.answer_all_off(out, source, medium, after)
     }
 
     /// The calls of a case that has no device.
@@ -181,8 +200,26 @@ impl CaseRun<'_> {
         say::nothing_of(out, self.case.off.as_slice())
     }
 
+    /// Carries the case out over the memory that its image was brought into.
+    fn run_over<W: Write>(
+        self,
+        out: &mut W,
+        source: &Source,
+        medium: &mut Medium,
+    ) -> Result<(), Trouble>
+        ensures { OnOk result (Prints (RunOver (medium_refusal medium.old) self.entry.case.now source.now medium.old) (W.contents out.old) (W.contents out.new)) }
+    {
+        let served = self.on_pile(out, medium, &Serve);
+        match decided(out, served)? {
+            Outcome::Served => self.finish(out, source, medium),
+            Outcome::Refused => self.decline(out),
+        }
+    }
+
     /// Carries the case out, if it has any call.
-    fn run<W: Write>(self, out: &mut W) -> Result<(), Trouble> {
+    fn run<W: Write>(self, out: &mut W) -> Result<(), Trouble>
+        ensures { OnOk result (Prints (IsRun self.entry.case.now) (W.contents out.old) (W.contents out.new)) }
+    {
         let Some(first) = self.case.first() else {
             return Ok(());
         };
@@ -191,22 +228,19 @@ impl CaseRun<'_> {
             line: first.line,
         };
         let plan = &self.case.plan;
-        let source = plan
-            .source
-            .as_ref()
-            .ok_or_else(|| spot.trouble("a call, and no image to make it on"))?;
+        let Some(source) = &plan.source else {
+            return Err(spot.trouble("a call, and no image to make it on"));
+        };
         let mut medium = load(self.rt, source)?;
         prepare(&mut medium, plan.fills.as_slice());
-        let served = self.on_pile(&mut medium, Serve(&mut *out));
-        match decided(out, served)? {
-            Outcome::Served => self.finish(out, source, &mut medium),
-            Outcome::Refused => self.decline(out),
-        }
+        self.run_over(out, source, &mut medium)
     }
 }
 
 /// Carries out each case in turn.
-pub(super) fn run<W: Write>(rt: &HostRuntime, out: &mut W, cases: &[Case]) -> Result<(), Trouble> {
+pub(super) fn run<W: Write>(rt: &HostRuntime, out: &mut W, cases: &[Case]) -> Result<(), Trouble>
+    ensures { OnOk result (Prints (AreRun cases.now) (W.contents out.old) (W.contents out.new)) }
+{
     for case in cases {
         CaseRun { rt, case }.run(out)?;
     }

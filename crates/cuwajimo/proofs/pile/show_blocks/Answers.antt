@@ -17,14 +17,15 @@ loop-block-preserved g c =
     let k = before.0 in
     let shown : c.look-shown.result ≡ shown_at blocks (first + k) = c.look-shown.ensures.answer ∙ ap (λ (bs : List Block). shown_at bs block) c.loop-block.invariant.0 ∙ ap (shown_at blocks) before.1 in
     let one : Appends (g.W.Write.contents c.loop-block.out) (g.W.Write.contents c.writeln.new.self) (block_line blocks (first + k)) =
-        subst (λ (x : Shown). Appends (g.W.Write.contents c.loop-block.out) (g.W.Write.contents c.writeln.new.self) (line (block_said (record { block = first + k; shown = x })))) shown
-        (subst (λ n. Appends (g.W.Write.contents c.loop-block.out) (g.W.Write.contents c.writeln.new.self) (line (block_said (record { block = n; shown = c.look-shown.result })))) before.1
-        c.in_ok-writeln.ensures.bytes) in
-    ( c.look-shown.ensures.same ∙ c.loop-block.invariant.0
-    , ( suc k
-      , omega (arith, before.1)
-      , Appends-trans (g.W.Write.contents c.args.out.now) (g.W.Write.contents c.loop-block.out) (g.W.Write.contents c.writeln.new.self) (block_lines blocks first k) (block_line blocks (first + k)) before.2 one
-      )
+    subst (λ (x : Shown). Appends (g.W.Write.contents c.loop-block.out) (g.W.Write.contents c.writeln.new.self) (line (block_said (record { block = first + k; shown = x })))) shown
+    (subst (λ n. Appends (g.W.Write.contents c.loop-block.out) (g.W.Write.contents c.writeln.new.self) (line (block_said (record { block = n; shown = c.look-shown.result })))) before.1
+    c.in_ok-writeln.ensures.bytes) in (
+      c.look-shown.ensures.same ∙ c.loop-block.invariant.0,
+      (
+        suc k,
+        omega (arith, before.1),
+        Appends-trans (g.W.Write.contents c.args.out.now) (g.W.Write.contents c.loop-block.out) (g.W.Write.contents c.writeln.new.self) (block_lines blocks first k) (block_line blocks (first + k)) before.2 one,
+      ),
     )
 
 pub returns-clause-printed : goal.returns-clause-printed

@@ -14,8 +14,8 @@ loop-call-preserved g c =
     let call = c.call-item.result in
     let rest = drop (i + 1) calls in
     let split : call ∷ rest ≡ drop i calls =
-        ap (λ (x : Call). x ∷ rest) c.call-item.is
-        ∙ sym (at_drop_more (λ (cs : List Call). cs) calls i call c.loop-call-test.true) in
+    ap (λ (x : Call). x ∷ rest) c.call-item.is
+    ∙ sym (at_drop_more (λ (cs : List Call). cs) calls i call c.loop-call-test.true) in
     next_printed (g.W.Write.contents c.args.out.now) (g.W.Write.contents c.loop-call.out) (g.W.Write.contents c.nothing.new.out) so_far.0 (nothing_line call.act) (nothing_lines rest) (nothing_lines calls)
     so_far.1 c.in_ok-nothing.ensures (ap (λ (cs : List Call). so_far.0 ++ nothing_lines cs) split ∙ so_far.2)
 
@@ -24,5 +24,5 @@ returns g c =
     let calls = c.args.calls.now in
     let so_far = c.loop-call.invariant in
     let all : so_far.0 ≡ nothing_lines calls =
-        sym (append-nil so_far.0) ∙ ap (λ (cs : List Call). so_far.0 ++ nothing_lines cs) (sym (drop_all c.loop-call.call-index calls c.loop-call-test.false)) ∙ so_far.2 in
+    sym (append-nil so_far.0) ∙ ap (λ (cs : List Call). so_far.0 ++ nothing_lines cs) (sym (drop_all c.loop-call.call-index calls c.loop-call-test.false)) ∙ so_far.2 in
     subst (Appends (g.W.Write.contents c.args.out.now) (g.W.Write.contents c.loop-call.out)) all so_far.1

@@ -8,5 +8,5 @@ use Rattle.cuwajimo.proofs.case.CaseRun.answer.Goals as goal
 pub returns-in_ok-writeln-in-Locks-clause-printed : goal.returns-in_ok-writeln-in-Locks-clause-printed
 returns-in_ok-writeln-in-Locks-clause-printed g c =
     rw c.in-Locks.is
-        (subst (λ (h : Holders). Appends (g.W.Write.contents c.args.out.now) (g.W.Write.contents c.writeln.new.self) (line (holders_words h))) c.of-holders.ensures
-        c.in_ok-writeln-in-Locks.ensures.bytes)
+    (subst (λ (h : Holders). Appends (g.W.Write.contents c.args.out.now) (g.W.Write.contents c.writeln.new.self) (line (holders_words h))) c.of-holders.ensures
+    c.in_ok-writeln-in-Locks.ensures.bytes)

@@ -13,5 +13,5 @@ invariant-loop-call g l =
     let calls = vec_items l.self.case.now.on in
     (all_left (world means l.session) (drop l.call-index calls) ≡ all_left (world means l.initial.session) calls)
     × ((so_far : List ℕ)
-        × Appends (g.W.Write.contents l.initial.out) (g.W.Write.contents l.out) so_far
-        × (so_far ++ all_lines (world means l.session) (drop l.call-index calls) ≡ all_lines (world means l.initial.session) calls))
+    × Appends (g.W.Write.contents l.initial.out) (g.W.Write.contents l.out) so_far
+    × (so_far ++ all_lines (world means l.session) (drop l.call-index calls) ≡ all_lines (world means l.initial.session) calls))
