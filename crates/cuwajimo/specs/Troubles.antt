@@ -23,3 +23,19 @@ IfLine (Script name e) P = ⊥
 IfLine (Io e) P = ⊥
 IfLine Usage P = ⊥
 IfLine Memory P = Unit {0}
+
+-- Something cannot be printed.
+abbrev pub CannotPrint : Trouble → Type 0
+CannotPrint (Line l what) = ⊥
+CannotPrint (Script name e) = ⊥
+CannotPrint (Io e) = Unit {0}
+CannotPrint Usage = ⊥
+CannotPrint Memory = ⊥
+
+-- Or there is no memory for a buffer.
+abbrev pub CannotGoOn : Trouble → Type 0
+CannotGoOn (Line l what) = ⊥
+CannotGoOn (Script name e) = ⊥
+CannotGoOn (Io e) = Unit {0}
+CannotGoOn Usage = ⊥
+CannotGoOn Memory = Unit {0}

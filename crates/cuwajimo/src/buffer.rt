@@ -1,5 +1,6 @@
-ghost use Rattle.std.specs.Prelude.{◌≡◌, length, IfOk};
+ghost use Rattle.std.specs.Prelude.{◌≡◌, length, IfOk, IsOkUnless};
 ghost use Rattle.cuwajimo.specs.Bytes.{repeated_at, repeating};
+ghost use Rattle.cuwajimo.specs.declared.trouble.Trouble.TheVariants.{Memory as NoMemory};
 
 use super::call::Filling;
 use super::trouble::Trouble;
@@ -27,7 +28,8 @@ fn fill(buffer: &mut [u8], bytes: &[u8])
 
 /// The buffer that a call is made with.
 pub(super) fn buffer(heap: Global, filling: &Filling) -> Result<Vec<u8>, Trouble>
-    ensures { IfOk result (λ v. v.items ≡ repeating filling.now.bytes.items filling.now.size) }
+    ensures bytes { IfOk result (λ v. v.items ≡ repeating filling.now.bytes.items filling.now.size) }
+    ensures want { IsOkUnless result NoMemory }
 {
     let mut buffer = vec![in heap; 0u8; filling.size as usize]?;
     fill(buffer.as_mut_slice(), filling.bytes.as_slice());

@@ -1,5 +1,6 @@
-ghost use Rattle.std.specs.Prelude.{◌≡◌, IfOk, if◌then◌else◌, Some, None, nat_le};
+ghost use Rattle.std.specs.Prelude.{◌≡◌, IfOk, IsOkUnless, if◌then◌else◌, Some, None, nat_le};
 ghost use Rattle.cuwajimo.specs.Media.{ZeroFlat, capped_bytes, ZeroRaw, medium_count};
+ghost use Rattle.cuwajimo.specs.declared.trouble.Trouble.TheVariants.{Memory as NoMemory};
 
 use super::plan::Source;
 use super::trouble::Trouble;
@@ -31,6 +32,7 @@ pub enum Medium {
 fn flat(heap: Global, blocks: u32) -> Result<Medium, Trouble>
     ensures memory { IfOk result (ZeroFlat blocks) }
     ensures count { IfOk result (λ m. medium_count m ≡ (if nat_le blocks 4194304 then Some blocks else None)) }
+    ensures want { IsOkUnless result NoMemory }
 {
     if !may_have(blocks as usize) {
         return Ok(Medium::Flat {
@@ -58,7 +60,8 @@ fn track_bytes(tracks: usize, records: u32) -> usize
 
 /// A raw image in memory, all zero.
 fn raw(heap: Global, records: u32, places: &[u8]) -> Result<Medium, Trouble>
-    ensures { IfOk result (ZeroRaw records places.now) }
+    ensures memory { IfOk result (ZeroRaw records places.now) }
+    ensures want { IsOkUnless result NoMemory }
 {
     let spares = Vec::from_slice(heap, places)?;
     let bytes = vec![in heap; 0u8; track_bytes(places.len(), records)]?;

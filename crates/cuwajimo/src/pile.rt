@@ -1,4 +1,4 @@
-ghost use Rattle.std.specs.Prelude.{◌≡◌, ℕ, List, Option, Result, IfOk, MatchResult, OnOk, Some};
+ghost use Rattle.std.specs.Prelude.{◌≡◌, ℕ, List, Option, Result, IfErr, IfOk, MatchResult, OnOk, Some};
 ghost use Rattle.std.specs.Io.KnownBytes.{Appends};
 ghost use Rattle.std.specs.Result.{result_err};
 ghost use Rattle.store.specs.Blocks.{Block};
@@ -10,6 +10,7 @@ ghost use Rattle.cuwajimo.specs.declared.trouble.Trouble.{Trouble};
 ghost use Rattle.cuwajimo.specs.Media.{medium_offered, medium_refusal};
 ghost use Rattle.cuwajimo.specs.Plans.{layers, pile_blocks, NoLayer};
 ghost use Rattle.cuwajimo.specs.Printed.{block_lines, Serves};
+ghost use Rattle.cuwajimo.specs.Troubles.{CannotPrint};
 ghost use Rattle.cuwajimo.specs.Shown.{block_said, protection_word, shown_at};
 
 use super::case::CaseRun;
@@ -102,6 +103,7 @@ fn show_blocks<S: Store, W: io::Write>(
 ) -> Result<(), Trouble>
     ensures same { S.Store.blocks store.new ≡ S.Store.blocks store.old }
     ensures printed { OnOk result (Appends (W.contents out.old) (W.contents out.new) (block_lines (S.Store.blocks store.old) first count)) }
+    ensures trouble { IfErr result CannotPrint }
 {
     let first = u64::from(first);
     for block in first..first + u64::from(count) {

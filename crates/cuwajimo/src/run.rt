@@ -1,8 +1,9 @@
-ghost use Rattle.std.specs.Prelude.{◌≡◌, ◌++◌, IfOk, MatchResult, OnOk, Some};
+ghost use Rattle.std.specs.Prelude.{◌≡◌, ◌++◌, IfErr, IfOk, MatchResult, OnOk, Some};
 ghost use Rattle.std.specs.Io.KnownBytes.{Appends};
 ghost use Rattle.cuwajimo.specs.declared.session.Outcome.TheVariants.{Refused};
 ghost use Rattle.cuwajimo.specs.Calls.{calls_off, calls_on};
 ghost use Rattle.cuwajimo.specs.Media.{medium_refusal};
+ghost use Rattle.cuwajimo.specs.Troubles.{CannotPrint};
 ghost use Rattle.cuwajimo.specs.Printed.{AfterOff, AreRun, FromOff, IsRun, Prints, RunOver, nothing_lines, off_lines, refused_line, save_line, saved_of, saved_word};
 
 use super::call::{Act, Call};
@@ -194,7 +195,8 @@ impl CaseRun<'_> {
 
     /// The calls of a case that has no device.
     fn decline<W: Write>(self, out: &mut W) -> Result<(), Trouble>
-        ensures { OnOk result (Appends (W.contents out.old) (W.contents out.new) (nothing_lines (calls_on self.entry.case.now) ++ nothing_lines (calls_off self.entry.case.now))) }
+        ensures printed { OnOk result (Appends (W.contents out.old) (W.contents out.new) (nothing_lines (calls_on self.entry.case.now) ++ nothing_lines (calls_off self.entry.case.now))) }
+        ensures trouble { IfErr result CannotPrint }
     {
         say::nothing_of(out, self.case.on.as_slice())?;
         say::nothing_of(out, self.case.off.as_slice())

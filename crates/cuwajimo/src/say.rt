@@ -1,6 +1,7 @@
-ghost use Rattle.std.specs.Prelude.{◌≡◌, OnOk, Some, take};
+ghost use Rattle.std.specs.Prelude.{◌≡◌, IfErr, OnOk, Some, take};
 ghost use Rattle.std.specs.Io.KnownBytes.{Appends};
 ghost use Rattle.cuwajimo.specs.Printed.{needed, nothing_line, nothing_lines};
+ghost use Rattle.cuwajimo.specs.Troubles.{CannotPrint};
 ghost use Rattle.cuwajimo.specs.Answers.{host_said, told_words, lent_words, hex_text, met_words, parameters_words, done_words, goes_on, tells_buffer, wanted, lends};
 
 use super::call::{Act, Call, HostAct};
@@ -203,7 +204,8 @@ impl Act {
 
 /// What a call prints for which there is no device, or no store.
 pub(super) fn nothing<W: io::Write>(out: &mut W, act: &Act) -> Result<(), Trouble>
-    ensures { OnOk result (Appends (W.contents out.old) (W.contents out.new) (nothing_line act.now)) }
+    ensures printed { OnOk result (Appends (W.contents out.old) (W.contents out.new) (nothing_line act.now)) }
+    ensures trouble { IfErr result CannotPrint }
 {
     let needed = act.needed();
     writeln!(out, "{act}: no {needed}")?;
@@ -212,7 +214,8 @@ pub(super) fn nothing<W: io::Write>(out: &mut W, act: &Act) -> Result<(), Troubl
 
 /// The same of several calls, one after the other.
 pub(super) fn nothing_of<W: io::Write>(out: &mut W, calls: &[Call]) -> Result<(), Trouble>
-    ensures { OnOk result (Appends (W.contents out.old) (W.contents out.new) (nothing_lines calls.now)) }
+    ensures printed { OnOk result (Appends (W.contents out.old) (W.contents out.new) (nothing_lines calls.now)) }
+    ensures trouble { IfErr result CannotPrint }
 {
     for call in calls {
         nothing(out, &call.act)?;

@@ -1,9 +1,11 @@
-ghost use Rattle.std.specs.Prelude.{◌≡◌, ◌++◌, IfOk, OnOk, Ok, codes, length, vec_items};
+ghost use Rattle.std.specs.Prelude.{◌≡◌, ◌++◌, IfErr, IfOk, IsOkUnless, OnOk, Ok, codes, length, vec_items};
 ghost use Rattle.std.specs.Io.KnownBytes.{Appends};
 ghost use Rattle.desk.specs.Worlds.{at_end, at_start, comes_to, world};
 ghost use Rattle.cuwajimo.specs.Printed.{act_line, all_lines, device_line, host_line, line, served_lines, Serves};
 ghost use Rattle.cuwajimo.specs.Answers.{status_words};
 ghost use Rattle.cuwajimo.specs.Sessions.{act_left, all_left, host_left, host_made, lent};
+ghost use Rattle.cuwajimo.specs.Troubles.{CannotGoOn, CannotPrint};
+ghost use Rattle.cuwajimo.specs.declared.trouble.Trouble.TheVariants.{Memory as NoMemory};
 ghost use Rattle.cuwajimo.specs.declared.session.Outcome.TheVariants.{Served, Refused};
 
 use super::buffer::buffer;
@@ -37,7 +39,8 @@ pub struct Ended<S> {
 impl HostAct {
     /// The buffer that it lends; the other calls lend an empty one.
     fn buffer(&self, heap: Global) -> Result<Vec<u8>, Trouble>
-        ensures { IfOk result (λ v. vec_items v ≡ lent self.now) }
+        ensures bytes { IfOk result (λ v. vec_items v ≡ lent self.now) }
+        ensures want { IsOkUnless result NoMemory }
     {
         match self {
             HostAct::Segment(filling) | HostAct::Report(filling) => buffer(heap, filling),
@@ -66,6 +69,7 @@ fn make<S: Store>(session: &mut Session<S>, host: u8, act: &HostAct, buffer: &mu
 fn refuse<W: Write>(out: &mut W, status: Status) -> Result<Outcome, Trouble>
     ensures outcome { IfOk result (λ outcome. outcome ≡ Refused) }
     ensures printed { OnOk result (Appends (W.contents out.old) (W.contents out.new) (line (codes "map: refused " ++ status_words status))) }
+    ensures trouble { IfErr result CannotPrint }
 {
     writeln!(out, "map: refused {status}")?;
     Ok(Outcome::Refused)
@@ -82,6 +86,7 @@ impl CaseRun<'_> {
     ) -> Result<(), Trouble>
         ensures left { OnOk result (world S.Store.blocks session.new ≡ host_left (world S.Store.blocks session.old) host act.now) }
         ensures printed { OnOk result (Appends (W.contents out.old) (W.contents out.new) (host_line (world S.Store.blocks session.old) host act.now)) }
+        ensures trouble { IfErr result CannotGoOn }
     {
         let mut buffer = act.buffer(self.rt.alloc())?;
         let answer = make(session, host, act, buffer.as_mut_slice());
@@ -105,6 +110,7 @@ impl CaseRun<'_> {
     ) -> Result<(), Trouble>
         ensures left { OnOk result (world S.Store.blocks session.new ≡ act_left (world S.Store.blocks session.old) act.now) }
         ensures printed { OnOk result (Appends (W.contents out.old) (W.contents out.new) (act_line (world S.Store.blocks session.old) act.now)) }
+        ensures trouble { IfErr result CannotGoOn }
     {
         match act {
             Act::Host { host, act } => self.answer_host(out, session, *host, act),
@@ -124,7 +130,8 @@ impl CaseRun<'_> {
 
     /// The device's own line.
     fn announce<W: Write>(self, out: &mut W, blocks: u32) -> Result<(), Trouble>
-        ensures { OnOk result (Appends (W.contents out.old) (W.contents out.new) (device_line self.entry.case.now.plan.device (length (vec_items self.entry.case.now.plan.units)) blocks)) }
+        ensures printed { OnOk result (Appends (W.contents out.old) (W.contents out.new) (device_line self.entry.case.now.plan.device (length (vec_items self.entry.case.now.plan.units)) blocks)) }
+        ensures trouble { IfErr result CannotPrint }
     {
         let number = self.case.plan.device;
         let units = self.case.plan.units.len();
@@ -139,6 +146,7 @@ impl CaseRun<'_> {
         session: &mut Session<S>,
     ) -> Result<Outcome, Trouble>
         ensures outcome { IfOk result (λ outcome. outcome ≡ Served) }
+        ensures trouble { IfErr result CannotGoOn }
         ensures printed { OnOk result (Appends (W.contents out.old) (W.contents out.new) (device_line self.entry.case.now.plan.device (length (vec_items self.entry.case.now.plan.units)) (length (S.Store.blocks session.old.device.store)) ++ all_lines (world S.Store.blocks session.old) (vec_items self.entry.case.now.on))) }
         ensures left { OnOk result (world S.Store.blocks session.new ≡ all_left (world S.Store.blocks session.old) (vec_items self.entry.case.now.on)) }
     {
@@ -152,6 +160,7 @@ impl CaseRun<'_> {
     /// Powers the device on over the store, answers the calls, and powers it off.
     fn serve_on<S: Store, W: Write>(self, out: &mut W, map: UnitMap, store: S) -> Ended<S>
         ensures outcome { IfOk result.outcome (λ outcome. outcome ≡ Served) }
+        ensures trouble { IfErr result.outcome CannotGoOn }
         ensures printed { OnOk result.outcome (Appends (W.contents out.old) (W.contents out.new) (served_lines (Ok map) self.entry.case.now.plan (S.Store.blocks store) (vec_items self.entry.case.now.on))) }
         ensures left { OnOk result.outcome (S.Store.blocks result.store ≡ (at_end (all_left (at_start self.entry.case.now.plan.device map (S.Store.blocks store)) (vec_items self.entry.case.now.on))).blocks) }
     {
@@ -165,7 +174,8 @@ impl CaseRun<'_> {
 
     /// The case's calls before `off`, on a device over the store if its units make a map.
     pub(super) fn serve<S: Store, W: Write>(self, out: &mut W, store: S) -> Ended<S>
-        ensures { IfOk result.outcome (λ outcome. Serves self.entry.case.now (S.Store.blocks store) outcome (S.Store.blocks result.store) (W.contents out.old) (W.contents out.new)) }
+        ensures trouble { IfErr result.outcome CannotGoOn }
+        ensures served { IfOk result.outcome (λ outcome. Serves self.entry.case.now (S.Store.blocks store) outcome (S.Store.blocks result.store) (W.contents out.old) (W.contents out.new)) }
     {
         let plan = &self.case.plan;
         match UnitMap::new(plan.units.as_slice(), plan.end) {

@@ -4,8 +4,8 @@ use Rattle.cuwajimo.specs.Bytes.{repeated_at, repeating}
 use Rattle.cuwajimo.proofs.Refilled.{refilled}
 use Rattle.cuwajimo.proofs.buffer.buffer.Goals as goal
 
-pub returns : goal.returns
-returns c =
+pub returns-clause-bytes : goal.returns-clause-bytes
+returns-clause-bytes c =
     let bytes = vec_items c.args.filling.now.bytes in
     let size = c.args.filling.now.size in
     let whole : length c.as_mut_slice.result.now ≡ c.in_ok-buffer.buffer.len = c.as_mut_slice.ensures.len in

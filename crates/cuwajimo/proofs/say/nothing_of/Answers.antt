@@ -17,10 +17,10 @@ loop-call-preserved g c =
     ap (λ (x : Call). x ∷ rest) c.call-item.is
     ∙ sym (at_drop_more (λ (cs : List Call). cs) calls i call c.loop-call-test.true) in
     next_printed (g.W.Write.contents c.args.out.now) (g.W.Write.contents c.loop-call.out) (g.W.Write.contents c.nothing.new.out) so_far.0 (nothing_line call.act) (nothing_lines rest) (nothing_lines calls)
-    so_far.1 c.in_ok-nothing.ensures (ap (λ (cs : List Call). so_far.0 ++ nothing_lines cs) split ∙ so_far.2)
+    so_far.1 c.in_ok-nothing.ensures.printed (ap (λ (cs : List Call). so_far.0 ++ nothing_lines cs) split ∙ so_far.2)
 
-pub returns : goal.returns
-returns g c =
+pub returns-clause-printed : goal.returns-clause-printed
+returns-clause-printed g c =
     let calls = c.args.calls.now in
     let so_far = c.loop-call.invariant in
     let all : so_far.0 ≡ nothing_lines calls =

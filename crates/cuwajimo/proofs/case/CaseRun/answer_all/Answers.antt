@@ -37,7 +37,7 @@ returns-clause-printed g c =
     let so_far = c.loop-call.invariant.1 in
     let first = world means c.args.session.now in
     let begun : Appends (g.W.Write.contents c.args.out.now) (g.W.Write.contents c.announce.new.out) (device_line plan.device (length (vec_items plan.units)) (length (means c.args.session.now.device.store))) =
-    subst (λ n. Appends (g.W.Write.contents c.args.out.now) (g.W.Write.contents c.announce.new.out) (device_line plan.device (length (vec_items plan.units)) n)) c.size.ensures c.in_ok-announce.ensures in
+    subst (λ n. Appends (g.W.Write.contents c.args.out.now) (g.W.Write.contents c.announce.new.out) (device_line plan.device (length (vec_items plan.units)) n)) c.size.ensures c.in_ok-announce.ensures.printed in
     let all : so_far.0 ≡ all_lines first calls =
     sym (append-nil so_far.0)
     ∙ ap (λ (cs : List Call). so_far.0 ++ all_lines (world means c.loop-call.session) cs)
