@@ -7,6 +7,8 @@ use Rattle.flat.specs.Flat.{flat_count, flat_offered, flat_refusal}
 use Rattle.raw.specs.Raw.{raw_count, raw_offered, raw_refusal}
 use Rattle.cuwajimo.specs.declared.medium.Medium.{Medium}
 use Rattle.cuwajimo.specs.declared.medium.Medium.TheVariants.{Flat, Raw}
+use Rattle.cuwajimo.specs.declared.plan.Source.{Source}
+use Rattle.cuwajimo.specs.declared.plan.Source.TheVariants as sources
 
 -- How many blocks the memory has, if its lengths make an image.
 abbrev pub medium_count : Medium → Option ℕ
@@ -45,3 +47,12 @@ capped_bytes tracks records = capped (capped (cond (nat_le records 256) tracks 0
 abbrev pub ZeroRaw : ℕ → List ℕ → Medium → Type 0
 ZeroRaw n places (Flat bytes damage) = ⊥
 ZeroRaw n places (Raw bytes spares records) = (vec_items bytes ≡ replicate (track_bytes (length places) n) 0) × (vec_items spares ≡ places) × (records ≡ n)
+
+-- The memory that an image is brought into: all zero where it comes from no file; of one from files its kind, and how many records a track has.
+abbrev pub Loaded : Source → Medium → Type 0
+Loaded (sources.Flat blocks) medium = ZeroFlat blocks medium
+Loaded (sources.FlatFiles blocks map) (Flat bytes damage) = Unit {0}
+Loaded (sources.FlatFiles blocks map) (Raw bytes spares records) = ⊥
+Loaded (sources.Raw records places) medium = ZeroRaw records (vec_items places) medium
+Loaded (sources.RawFiles tracks places records) (Flat bytes damage) = ⊥
+Loaded (sources.RawFiles tracks places records) (Raw bytes spares counted) = counted ≡ records

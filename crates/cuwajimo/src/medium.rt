@@ -1,5 +1,5 @@
 ghost use Rattle.std.specs.Prelude.{◌≡◌, IfOk, IsOkUnless, if◌then◌else◌, Some, None, nat_le};
-ghost use Rattle.cuwajimo.specs.Media.{ZeroFlat, capped_bytes, ZeroRaw, medium_count};
+ghost use Rattle.cuwajimo.specs.Media.{Loaded, ZeroFlat, capped_bytes, ZeroRaw, medium_count};
 ghost use Rattle.cuwajimo.specs.declared.trouble.Trouble.TheVariants.{Memory as NoMemory};
 
 use super::plan::Source;
@@ -73,7 +73,9 @@ fn raw(heap: Global, records: u32, places: &[u8]) -> Result<Medium, Trouble>
 }
 
 /// Brings the image into memory.
-pub(super) fn load(rt: &HostRuntime, source: &Source) -> Result<Medium, Trouble> {
+pub(super) fn load(rt: &HostRuntime, source: &Source) -> Result<Medium, Trouble>
+    ensures { IfOk result (Loaded source.now) }
+{
     match source {
         Source::Flat { blocks } => flat(rt.alloc(), *blocks),
         Source::FlatFiles { bytes, damage } => {
