@@ -26,7 +26,7 @@ impl<S: Store> Cache<S> {
     pub fn new(below: S) -> Cache<S>
         ensures below { result.below ≡ below }
         ensures vacant { (result.slots ≡ vacant_slots) × (result.turn ≡ 0) }
-        ensures same { cached_by S.Store.blocks result ≡ S.Store.blocks below }
+        ensures same { cached_by S.blocks result ≡ S.blocks below }
     {
         let vacant = Slot {
             block: None,
@@ -55,8 +55,8 @@ impl<S: Store> Cache<S> {
 
     /// Settles the cache, ends it, and hands back the store below.
     pub fn release(mut self) -> S
-        ensures same { S.Store.blocks result ≡ cached_by S.Store.blocks self }
-        ensures settled { S.Store.settled result }
+        ensures same { S.blocks result ≡ cached_by S.blocks self }
+        ensures settled { S.settled result }
     {
         self.settle();
         let Cache {
@@ -70,7 +70,7 @@ impl<S: Store> Cache<S> {
     /// Writes the block of a slot, if it keeps one, to the store below, and keeps it no more.
     fn flush(&mut self, place: usize)
         requires { place < 8 }
-        ensures { held S.Store.blocks self.new ≡ without_block (held S.Store.blocks self.old) (slice_index_or self.old.slots place no_slot).block }
+        ensures { held S.blocks self.new ≡ without_block (held S.blocks self.old) (slice_index_or self.old.slots place no_slot).block }
     {
         if let Some(block) = self.slots[place].block {
             let _ = self.below.write(block, &self.slots[place].bytes);
@@ -81,7 +81,7 @@ impl<S: Store> Cache<S> {
     /// Gives up the block in the slot whose turn it is, and says which slot that is.
     fn give_up(&mut self) -> usize
         ensures place { result ≡ turn_place self.old.turn }
-        ensures held { held S.Store.blocks self.new ≡ giving_up (held S.Store.blocks self.old) }
+        ensures held { held S.blocks self.new ≡ giving_up (held S.blocks self.old) }
     {
         let place = self.turn % SLOTS;
         self.flush(place);
@@ -95,7 +95,7 @@ impl<S: Store> Cache<S> {
         requires inside { IfSome own (λ i. i < 8) }
         ensures place { result ≡ place_for self.old.slots self.old.turn block }
         ensures within { result < 8 }
-        ensures held { held S.Store.blocks self.new ≡ with_room (held S.Store.blocks self.old) block }
+        ensures held { held S.blocks self.new ≡ with_room (held S.blocks self.old) block }
     {
         // `unwrap_or_else` was tried: from it the proof learns nothing of `self` where no block is given up
         match own.or_else(|| find(&self.slots, None)) {
@@ -109,9 +109,9 @@ impl<S: Store> Cache<S> {
     fn keep(&mut self, own: Option<usize>, block: u32, bytes: &[u8; BLOCK_BYTES])
         requires own { own ≡ place self.old.slots (Some block) }
         requires inside { IfSome own (λ i. i < 8) }
-        ensures held { held S.Store.blocks self.new ≡ keeping (held S.Store.blocks self.old) block bytes.now }
-        ensures after { cached_by S.Store.blocks self.new ≡ written (cached_by S.Store.blocks self.old) block bytes.now }
-        ensures late { KeptLate (held S.Store.blocks self.old) (held S.Store.blocks self.new) block bytes.now }
+        ensures held { held S.blocks self.new ≡ keeping (held S.blocks self.old) block bytes.now }
+        ensures after { cached_by S.blocks self.new ≡ written (cached_by S.blocks self.old) block bytes.now }
+        ensures late { KeptLate (held S.blocks self.old) (held S.blocks self.new) block bytes.now }
     {
         let place = self.room(own, block);
         self.slots[place].fill(block, bytes);
@@ -120,11 +120,11 @@ impl<S: Store> Cache<S> {
     /// Reads an open block that is not kept, and keeps it.
     fn fetch(&mut self, block: u32, buffer: &mut [u8; BLOCK_BYTES]) -> Result<(), StoreFault>
         requires { place self.old.slots (Some block) ≡ None }
-        ensures answer { result ≡ read_answer (S.Store.blocks self.old.below) block buffer.old }
-        ensures buffer { buffer.new ≡ read_buffer (S.Store.blocks self.old.below) block buffer.old }
-        ensures held { held S.Store.blocks self.new ≡ (if is_ok result then keeping (held S.Store.blocks self.old) block buffer.new else held S.Store.blocks self.old) }
-        ensures after { cached_by S.Store.blocks self.new ≡ (if is_ok result then written (cached_by S.Store.blocks self.old) block buffer.new else cached_by S.Store.blocks self.old) }
-        ensures late { is_ok result ≡ true → KeptLate (held S.Store.blocks self.old) (held S.Store.blocks self.new) block buffer.new }
+        ensures answer { result ≡ read_answer (S.blocks self.old.below) block buffer.old }
+        ensures buffer { buffer.new ≡ read_buffer (S.blocks self.old.below) block buffer.old }
+        ensures held { held S.blocks self.new ≡ (if is_ok result then keeping (held S.blocks self.old) block buffer.new else held S.blocks self.old) }
+        ensures after { cached_by S.blocks self.new ≡ (if is_ok result then written (cached_by S.blocks self.old) block buffer.new else cached_by S.blocks self.old) }
+        ensures late { is_ok result ≡ true → KeptLate (held S.blocks self.old) (held S.blocks self.new) block buffer.new }
     {
         self.below.read(block, buffer)?;
         self.keep(None, block, buffer);
@@ -135,24 +135,24 @@ impl<S: Store> Cache<S> {
 impl<S: Store> Store for Cache<S> {
     ghost use Rattle.cache.specs.Caches.{cached_by, cache_lawful, held, after_read, after_write, after_settle, KeptLate};
 
-    ghost blocks = { λ s. cached_by S.Store.blocks s };
+    ghost blocks = { λ s. cached_by S.blocks s };
 
-    ghost stored = { λ s. S.Store.stored s.below };
+    ghost stored = { λ s. S.stored s.below };
 
-    ghost settled = { λ s. S.Store.settled s.below × (S.Store.blocks s.below ≡ cached_by S.Store.blocks s) };
+    ghost settled = { λ s. S.settled s.below × (S.blocks s.below ≡ cached_by S.blocks s) };
 
-    ghost lawful = { λ s. cache_lawful (S.Store.blocks s.below) (S.Store.stored s.below) (S.Store.settled s.below) s.slots (S.Store.lawful s.below) };
+    ghost lawful = { λ s. cache_lawful (S.blocks s.below) (S.stored s.below) (S.settled s.below) s.slots (S.Store.lawful s.below) };
 
     fn size(&self) -> u32 {
         self.below.size()
     }
 
     fn read(&mut self, block: u32, buffer: &mut [u8]) -> Result<(), StoreFault>
-        ensures answer { result ≡ read_answer (cached_by S.Store.blocks self.old) block buffer.old }
-        ensures buffer { buffer.new ≡ read_buffer (cached_by S.Store.blocks self.old) block buffer.old }
-        ensures same { cached_by S.Store.blocks self.new ≡ cached_by S.Store.blocks self.old }
-        ensures held { held S.Store.blocks self.new ≡ after_read (held S.Store.blocks self.old) block buffer.old }
-        ensures late { is_ok result ≡ true → is_open_at (slice_get (S.Store.blocks self.old.below) block) ≡ true → KeptLate (held S.Store.blocks self.old) (held S.Store.blocks self.new) block buffer.new }
+        ensures answer { result ≡ read_answer (cached_by S.blocks self.old) block buffer.old }
+        ensures buffer { buffer.new ≡ read_buffer (cached_by S.blocks self.old) block buffer.old }
+        ensures same { cached_by S.blocks self.new ≡ cached_by S.blocks self.old }
+        ensures held { held S.blocks self.new ≡ after_read (held S.blocks self.old) block buffer.old }
+        ensures late { is_ok result ≡ true → is_open_at (slice_get (S.blocks self.old.below) block) ≡ true → KeptLate (held S.blocks self.old) (held S.blocks self.new) block buffer.new }
     {
         let buffer = buffer.as_mut_array().ok_or(FaultKind::Length.at(block))?;
         if self.below.protection(block) != Ok(Protection::Open) {
@@ -166,10 +166,10 @@ impl<S: Store> Store for Cache<S> {
     }
 
     fn write(&mut self, block: u32, bytes: &[u8]) -> Result<(), StoreFault>
-        ensures answer { result ≡ write_answer (cached_by S.Store.blocks self.old) block bytes.now }
-        ensures after { cached_by S.Store.blocks self.new ≡ written (cached_by S.Store.blocks self.old) block bytes.now }
-        ensures held { held S.Store.blocks self.new ≡ after_write (held S.Store.blocks self.old) block bytes.now }
-        ensures late { is_ok result ≡ true → KeptLate (held S.Store.blocks self.old) (held S.Store.blocks self.new) block bytes.now }
+        ensures answer { result ≡ write_answer (cached_by S.blocks self.old) block bytes.now }
+        ensures after { cached_by S.blocks self.new ≡ written (cached_by S.blocks self.old) block bytes.now }
+        ensures held { held S.blocks self.new ≡ after_write (held S.blocks self.old) block bytes.now }
+        ensures late { is_ok result ≡ true → KeptLate (held S.blocks self.old) (held S.blocks self.new) block bytes.now }
     {
         let bytes = bytes.as_array().ok_or(FaultKind::Length.at(block))?;
         self.below.protection(block)?.permit(block)?;
@@ -183,9 +183,9 @@ impl<S: Store> Store for Cache<S> {
     }
 
     fn settle(&mut self)
-        ensures same { cached_by S.Store.blocks self.new ≡ cached_by S.Store.blocks self.old }
-        ensures settled { S.Store.settled self.new.below × (S.Store.blocks self.new.below ≡ cached_by S.Store.blocks self.new) }
-        ensures held { held S.Store.blocks self.new ≡ after_settle (held S.Store.blocks self.old) }
+        ensures same { cached_by S.blocks self.new ≡ cached_by S.blocks self.old }
+        ensures settled { S.settled self.new.below × (S.blocks self.new.below ≡ cached_by S.blocks self.new) }
+        ensures held { held S.blocks self.new ≡ after_settle (held S.blocks self.old) }
     {
         for slot in self.slots.iter().rev() {
             if let Some(block) = slot.block {

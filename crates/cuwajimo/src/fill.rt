@@ -14,7 +14,7 @@ use store::store::Store;
 /// An image of which a block can be marked damaged.
 pub(super) trait Mark: Store {
     fn mark(&mut self, block: u32)
-        ensures { Self.Store.blocks self.new ≡ harmed (Self.Store.blocks self.old) block };
+        ensures { Self.blocks self.new ≡ harmed (Self.blocks self.old) block };
 }
 
 impl Mark for FlatImage<'_> {
@@ -49,7 +49,7 @@ fn pattern(p: u32, block: u32) -> [u8; BLOCK_BYTES]
 
 /// Makes every block of an image sound, with a pattern's bytes.
 fn lay_pattern<S: Mark>(image: &mut S, p: u32)
-    ensures { S.Store.blocks image.new ≡ patterned p (S.Store.blocks image.old) }
+    ensures { S.blocks image.new ≡ patterned p (S.blocks image.old) }
 {
     for block in 0..image.size() {
         let _ = put_block(image, block, &pattern(p, block));
@@ -58,7 +58,7 @@ fn lay_pattern<S: Mark>(image: &mut S, p: u32)
 
 /// Marks blocks of an image damaged.
 fn mark_all<S: Mark>(image: &mut S, blocks: &[u32])
-    ensures { S.Store.blocks image.new ≡ harmed_all (S.Store.blocks image.old) blocks.now }
+    ensures { S.blocks image.new ≡ harmed_all (S.blocks image.old) blocks.now }
 {
     for block in blocks {
         image.mark(*block);
@@ -67,7 +67,7 @@ fn mark_all<S: Mark>(image: &mut S, blocks: &[u32])
 
 /// Does what one line of the script asks of the image.
 fn apply<S: Mark>(image: &mut S, fill: &Fill)
-    ensures { S.Store.blocks image.new ≡ filled fill.now (S.Store.blocks image.old) }
+    ensures { S.blocks image.new ≡ filled fill.now (S.blocks image.old) }
 {
     match fill {
         Fill::Pattern(p) => lay_pattern(image, *p),
@@ -77,7 +77,7 @@ fn apply<S: Mark>(image: &mut S, fill: &Fill)
 
 /// Does what each line asks, in their order.
 fn apply_all<S: Mark>(image: &mut S, fills: &[Fill])
-    ensures { S.Store.blocks image.new ≡ filled_all fills.now (S.Store.blocks image.old) }
+    ensures { S.blocks image.new ≡ filled_all fills.now (S.blocks image.old) }
 {
     for fill in fills {
         apply(image, fill);

@@ -76,8 +76,8 @@ fn may(protection: Protection) -> &'static str
 
 /// Looks at a block of a store. A number past what counts blocks is beyond every store.
 fn look<S: Store>(store: &mut S, block: u64) -> Shown
-    ensures answer { result ≡ shown_at (S.Store.blocks store.old) block }
-    ensures same { S.Store.blocks store.new ≡ S.Store.blocks store.old }
+    ensures answer { result ≡ shown_at (S.blocks store.old) block }
+    ensures same { S.blocks store.new ≡ S.blocks store.old }
 {
     let Ok(block) = u32::try_from(block) else {
         return Shown::Beyond;
@@ -101,8 +101,8 @@ fn show_blocks<S: Store, W: io::Write>(
     first: u32,
     count: u32,
 ) -> Result<(), Trouble>
-    ensures same { S.Store.blocks store.new ≡ S.Store.blocks store.old }
-    ensures printed { OnOk result (Appends (W.contents out.old) (W.contents out.new) (block_lines (S.Store.blocks store.old) first count)) }
+    ensures same { S.blocks store.new ≡ S.blocks store.old }
+    ensures printed { OnOk result (Appends (W.contents out.old) (W.contents out.new) (block_lines (S.blocks store.old) first count)) }
     ensures trouble { IfErr result CannotPrint }
 {
     let first = u64::from(first);
@@ -120,7 +120,7 @@ pub(super) trait Job {
     ghost comes: { Self → Case → List Block → Result Outcome Trouble → List Block → Option (List ℕ) → Option (List ℕ) → Type 0 };
 
     fn perform<S: Store, W: io::Write>(&self, out: &mut W, run: CaseRun<'_>, store: S) -> Ended<S>
-        ensures { comes self.now run.entry.case.now (S.Store.blocks store) result.outcome (S.Store.blocks result.store) (W.contents out.old) (W.contents out.new) };
+        ensures { comes self.now run.entry.case.now (S.blocks store) result.outcome (S.blocks result.store) (W.contents out.old) (W.contents out.new) };
 }
 
 /// A device over the pile answers the calls before `off`.
@@ -162,7 +162,7 @@ impl Job for Show {
 /// The window and the write guard that the plan asks for, over its image.
 fn layered<S: Store>(plan: &Plan, image: S) -> WriteGuard<Window<S>>
     ensures exact { result ≡ layers plan.now image }
-    ensures plain { NoLayer plan.now → guarded (windowed S.Store.blocks) result ≡ S.Store.blocks image }
+    ensures plain { NoLayer plan.now → guarded (windowed S.blocks) result ≡ S.blocks image }
 {
     WriteGuard::new(Window::new(image, plan.shown()), plan.guarded())
 }
@@ -175,7 +175,7 @@ impl CaseRun<'_> {
         image: S,
         job: &J,
     ) -> Result<Outcome, Trouble>
-        ensures { (after : List Block) × J.comes job.now self.entry.case.now (pile_blocks self.entry.case.now.plan (S.Store.blocks image)) result after (W.contents out.old) (W.contents out.new) }
+        ensures { (after : List Block) × J.comes job.now self.entry.case.now (pile_blocks self.entry.case.now.plan (S.blocks image)) result after (W.contents out.old) (W.contents out.new) }
     {
         let plan = &self.case.plan;
         let below = layered(plan, image);

@@ -51,7 +51,7 @@ impl HostAct {
 
 /// Makes a host's call, and tells what it answers. The buffer is the one that the call lends.
 fn make<S: Store>(session: &mut Session<S>, host: u8, act: &HostAct, buffer: &mut [u8]) -> Answer
-    ensures { comes_to result buffer.new (world S.Store.blocks session.new) ≡ host_made (world S.Store.blocks session.old) host act.now buffer.old }
+    ensures { comes_to result buffer.new (world S.blocks session.new) ≡ host_made (world S.blocks session.old) host act.now buffer.old }
 {
     match act {
         HostAct::Command(bytes) => session.command(host, bytes.as_slice()),
@@ -84,8 +84,8 @@ impl CaseRun<'_> {
         host: u8,
         act: &HostAct,
     ) -> Result<(), Trouble>
-        ensures left { OnOk result (world S.Store.blocks session.new ≡ host_left (world S.Store.blocks session.old) host act.now) }
-        ensures printed { OnOk result (Appends (W.contents out.old) (W.contents out.new) (host_line (world S.Store.blocks session.old) host act.now)) }
+        ensures left { OnOk result (world S.blocks session.new ≡ host_left (world S.blocks session.old) host act.now) }
+        ensures printed { OnOk result (Appends (W.contents out.old) (W.contents out.new) (host_line (world S.blocks session.old) host act.now)) }
         ensures trouble { IfErr result CannotGoOn }
     {
         let mut buffer = act.buffer(self.rt.alloc())?;
@@ -108,8 +108,8 @@ impl CaseRun<'_> {
         session: &mut Session<S>,
         act: &Act,
     ) -> Result<(), Trouble>
-        ensures left { OnOk result (world S.Store.blocks session.new ≡ act_left (world S.Store.blocks session.old) act.now) }
-        ensures printed { OnOk result (Appends (W.contents out.old) (W.contents out.new) (act_line (world S.Store.blocks session.old) act.now)) }
+        ensures left { OnOk result (world S.blocks session.new ≡ act_left (world S.blocks session.old) act.now) }
+        ensures printed { OnOk result (Appends (W.contents out.old) (W.contents out.new) (act_line (world S.blocks session.old) act.now)) }
         ensures trouble { IfErr result CannotGoOn }
     {
         match act {
@@ -147,8 +147,8 @@ impl CaseRun<'_> {
     ) -> Result<Outcome, Trouble>
         ensures outcome { IfOk result (λ outcome. outcome ≡ Served) }
         ensures trouble { IfErr result CannotGoOn }
-        ensures printed { OnOk result (Appends (W.contents out.old) (W.contents out.new) (device_line self.entry.case.now.plan.device (length (vec_items self.entry.case.now.plan.units)) (length (S.Store.blocks session.old.device.store)) ++ all_lines (world S.Store.blocks session.old) (vec_items self.entry.case.now.on))) }
-        ensures left { OnOk result (world S.Store.blocks session.new ≡ all_left (world S.Store.blocks session.old) (vec_items self.entry.case.now.on)) }
+        ensures printed { OnOk result (Appends (W.contents out.old) (W.contents out.new) (device_line self.entry.case.now.plan.device (length (vec_items self.entry.case.now.plan.units)) (length (S.blocks session.old.device.store)) ++ all_lines (world S.blocks session.old) (vec_items self.entry.case.now.on))) }
+        ensures left { OnOk result (world S.blocks session.new ≡ all_left (world S.blocks session.old) (vec_items self.entry.case.now.on)) }
     {
         self.announce(out, session.size())?;
         for call in self.case.on.iter() {
@@ -161,8 +161,8 @@ impl CaseRun<'_> {
     fn serve_on<S: Store, W: Write>(self, out: &mut W, map: UnitMap, store: S) -> Ended<S>
         ensures outcome { IfOk result.outcome (λ outcome. outcome ≡ Served) }
         ensures trouble { IfErr result.outcome CannotGoOn }
-        ensures printed { OnOk result.outcome (Appends (W.contents out.old) (W.contents out.new) (served_lines (Ok map) self.entry.case.now.plan (S.Store.blocks store) (vec_items self.entry.case.now.on))) }
-        ensures left { OnOk result.outcome (S.Store.blocks result.store ≡ (at_end (all_left (at_start self.entry.case.now.plan.device map (S.Store.blocks store)) (vec_items self.entry.case.now.on))).blocks) }
+        ensures printed { OnOk result.outcome (Appends (W.contents out.old) (W.contents out.new) (served_lines (Ok map) self.entry.case.now.plan (S.blocks store) (vec_items self.entry.case.now.on))) }
+        ensures left { OnOk result.outcome (S.blocks result.store ≡ (at_end (all_left (at_start self.entry.case.now.plan.device map (S.blocks store)) (vec_items self.entry.case.now.on))).blocks) }
     {
         let mut session = Session::new(power_on(self.case.plan.device, map, store));
         let outcome = self.answer_all(out, &mut session);
@@ -175,7 +175,7 @@ impl CaseRun<'_> {
     /// The case's calls before `off`, on a device over the store if its units make a map.
     pub(super) fn serve<S: Store, W: Write>(self, out: &mut W, store: S) -> Ended<S>
         ensures trouble { IfErr result.outcome CannotGoOn }
-        ensures served { IfOk result.outcome (λ outcome. Serves self.entry.case.now (S.Store.blocks store) outcome (S.Store.blocks result.store) (W.contents out.old) (W.contents out.new)) }
+        ensures served { IfOk result.outcome (λ outcome. Serves self.entry.case.now (S.blocks store) outcome (S.blocks result.store) (W.contents out.old) (W.contents out.new)) }
     {
         let plan = &self.case.plan;
         match UnitMap::new(plan.units.as_slice(), plan.end) {

@@ -42,7 +42,7 @@ impl Desk {
     /// Keeps a host's ticket. A device hands out one at a time; another that were there would be given up.
     pub fn put<S: Store>(&mut self, device: &mut Device<S>, host: u8, ticket: Ticket)
         ensures after { self.new ≡ with_slot self.old host (Some ticket) }
-        ensures device { state S.Store.blocks device.new ≡ ended (state S.Store.blocks device.old) (given_up self.old host ticket) }
+        ensures device { state S.blocks device.new ≡ ended (state S.blocks device.old) (given_up self.old host ticket) }
     {
         let place = usize::from(host);
         if place < HOSTS {
@@ -54,7 +54,7 @@ impl Desk {
 
     /// Ends the tickets that are still open.
     pub fn close<S: Store>(self, device: &mut Device<S>)
-        ensures { state S.Store.blocks device.new ≡ all_ended (state S.Store.blocks device.old) self }
+        ensures { state S.blocks device.new ≡ all_ended (state S.blocks device.old) self }
     {
         let Desk { slots } = self;
         // by name: a loop was tried, and the check refuses it, since it could end early and let tickets go
@@ -72,7 +72,7 @@ impl Desk {
 
 /// Ends a ticket, if there is one.
 fn end<S: Store>(device: &mut Device<S>, ticket: Option<Ticket>)
-    ensures { state S.Store.blocks device.new ≡ ended (state S.Store.blocks device.old) ticket }
+    ensures { state S.blocks device.new ≡ ended (state S.blocks device.old) ticket }
 {
     if let Some(ticket) = ticket {
         give_up(device, ticket);

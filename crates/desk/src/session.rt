@@ -20,7 +20,7 @@ pub struct Session<S> {
 impl<S: Store> Session<S> {
     /// A device whose hosts hold no ticket.
     pub fn new(device: Device<S>) -> Session<S>
-        ensures { world S.Store.blocks result ≡ record { state = state S.Store.blocks device; desk = empty_desk } }
+        ensures { world S.blocks result ≡ record { state = state S.blocks device; desk = empty_desk } }
     {
         Session {
             device,
@@ -30,9 +30,9 @@ impl<S: Store> Session<S> {
 
     /// Cancels the tickets that are still open, powers the device off, and hands back its store.
     pub fn power_off(self) -> S
-        ensures same { S.Store.blocks result ≡ (at_end (world S.Store.blocks self)).blocks }
-        ensures settled { S.Store.settled result }
-        ensures holds { S.Store.stored result ≡ (at_end (world S.Store.blocks self)).blocks }
+        ensures same { S.blocks result ≡ (at_end (world S.blocks self)).blocks }
+        ensures settled { S.settled result }
+        ensures holds { S.stored result ≡ (at_end (world S.blocks self)).blocks }
     {
         let Session { mut device, desk } = self;
         desk.close(&mut device);
@@ -42,7 +42,7 @@ impl<S: Store> Session<S> {
     /// Keeps a ticket for a host, and tells of which kind it is.
     fn hand(&mut self, host: u8, ticket: Ticket) -> Answer
         ensures answer { result ≡ handed ticket }
-        ensures after { world S.Store.blocks self.new ≡ with_ticket (world S.Store.blocks self.old) host ticket }
+        ensures after { world S.blocks self.new ≡ with_ticket (world S.blocks self.old) host ticket }
     {
         let answer = Answer::handed(&ticket);
         self.desk.put(&mut self.device, host, ticket);
@@ -52,7 +52,7 @@ impl<S: Store> Session<S> {
     /// Keeps a ticket that is not of the kind that a call takes.
     fn keep(&mut self, host: u8, ticket: Ticket) -> Answer
         ensures answer { result ≡ Answer.NoTicket }
-        ensures after { world S.Store.blocks self.new ≡ with_ticket (world S.Store.blocks self.old) host ticket }
+        ensures after { world S.blocks self.new ≡ with_ticket (world S.blocks self.old) host ticket }
     {
         self.desk.put(&mut self.device, host, ticket);
         Answer::NoTicket
@@ -60,7 +60,7 @@ impl<S: Store> Session<S> {
 
     /// Sends a host's command message. A ticket that it is given is kept for it.
     pub fn command(&mut self, host: u8, message: &[u8]) -> Answer
-        ensures { (result, world S.Store.blocks self.new) ≡ by_call (world S.Store.blocks self.old) host (calls.command host message.now) }
+        ensures { (result, world S.blocks self.new) ≡ by_call (world S.blocks self.old) host (calls.command host message.now) }
     {
         match self.device.command(host, message) {
             Ok(ticket) => self.hand(host, ticket),
@@ -70,7 +70,7 @@ impl<S: Store> Session<S> {
 
     /// Moves the next segment with the execution ticket that a host has. The ticket that comes back is kept for it.
     pub fn segment(&mut self, host: u8, buffer: &mut [u8]) -> Answer
-        ensures { comes_to result buffer.new (world S.Store.blocks self.new) ≡ by_segment (world S.Store.blocks self.old) host (held self.old.desk host) buffer.old }
+        ensures { comes_to result buffer.new (world S.blocks self.new) ≡ by_segment (world S.blocks self.old) host (held self.old.desk host) buffer.old }
     {
         match self.desk.take(host) {
             Some(Ticket::Execution(ticket)) => match self.device.segment(ticket, buffer) {
@@ -88,7 +88,7 @@ impl<S: Store> Session<S> {
 
     /// Asks for the report with the report ticket that a host has.
     pub fn report(&mut self, host: u8, buffer: &mut [u8]) -> Answer
-        ensures { comes_to result buffer.new (world S.Store.blocks self.new) ≡ by_report (world S.Store.blocks self.old) host (held self.old.desk host) buffer.old }
+        ensures { comes_to result buffer.new (world S.blocks self.new) ≡ by_report (world S.blocks self.old) host (held self.old.desk host) buffer.old }
     {
         match self.desk.take(host) {
             Some(Ticket::Report(ticket)) => match self.device.report(ticket, buffer) {
@@ -106,7 +106,7 @@ impl<S: Store> Session<S> {
 
     /// Gives back the ticket that a host has.
     pub fn cancel(&mut self, host: u8) -> Answer
-        ensures { (result, world S.Store.blocks self.new) ≡ by_cancel (world S.Store.blocks self.old) host (held self.old.desk host) }
+        ensures { (result, world S.blocks self.new) ≡ by_cancel (world S.blocks self.old) host (held self.old.desk host) }
     {
         let Some(ticket) = self.desk.take(host) else {
             return Answer::NoTicket;
@@ -122,7 +122,7 @@ impl<S: Store> Session<S> {
 
     /// Clears a host.
     pub fn clear(&mut self, host: u8) -> Answer
-        ensures { (result, world S.Store.blocks self.new) ≡ by_call (world S.Store.blocks self.old) host (calls.clear host) }
+        ensures { (result, world S.blocks self.new) ≡ by_call (world S.blocks self.old) host (calls.clear host) }
     {
         match self.device.clear(host) {
             Ok(()) => Answer::Done,
@@ -132,7 +132,7 @@ impl<S: Store> Session<S> {
 
     /// Takes a host's notice; without one the answer is `Done`.
     pub fn notice(&mut self, host: u8) -> Answer
-        ensures { (result, world S.Store.blocks self.new) ≡ by_call (world S.Store.blocks self.old) host (calls.notice host) }
+        ensures { (result, world S.blocks self.new) ≡ by_call (world S.blocks self.old) host (calls.notice host) }
     {
         match self.device.notice(host) {
             Ok(Some(status)) => Answer::Notice(status),
@@ -143,7 +143,7 @@ impl<S: Store> Session<S> {
 
     /// Looks at a host's fault; without one the answer is `Done`.
     pub fn fault(&mut self, host: u8) -> Answer
-        ensures { (result, world S.Store.blocks self.new) ≡ by_call (world S.Store.blocks self.old) host (calls.fault host) }
+        ensures { (result, world S.blocks self.new) ≡ by_call (world S.blocks self.old) host (calls.fault host) }
     {
         match self.device.fault(host) {
             Ok(Some(fault)) => Answer::Fault(fault),
@@ -174,14 +174,14 @@ impl<S: Store> Session<S> {
 
     /// How many blocks segments have asked for since power on.
     pub fn activity(&self) -> u64
-        ensures { result ≡ (world S.Store.blocks self.now).state.activity }
+        ensures { result ≡ (world S.blocks self.now).state.activity }
     {
         self.device.activity()
     }
 
     /// How many blocks the device has.
     pub fn size(&self) -> u32
-        ensures { result ≡ length (world S.Store.blocks self.now).state.blocks }
+        ensures { result ≡ length (world S.blocks self.now).state.blocks }
     {
         self.device.size()
     }

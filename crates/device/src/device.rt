@@ -35,7 +35,7 @@ pub struct Device<S> {
 impl<S: Store> Device<S> {
     /// Takes a command message of a host, and hands out a ticket for the transaction that it opens.
     pub fn command(&mut self, host: u8, bytes: &[u8]) -> Result<Ticket, Status>
-        ensures { (command_answer result, state S.Store.blocks self.new) ≡ after (state S.Store.blocks self.old) (command host bytes.now) }
+        ensures { (command_answer result, state S.blocks self.new) ≡ after (state S.blocks self.old) (command host bytes.now) }
     {
         let caller = self.controller.caller(host)?;
         let reaches = self.controller.map.end() <= self.store.size();
@@ -44,7 +44,7 @@ impl<S: Store> Device<S> {
 
     /// Ends a host's interlock and restores its values; its locks, notice, wait and fault are dropped.
     pub fn clear(&mut self, host: u8) -> Result<(), Status>
-        ensures { (clear_answer result, state S.Store.blocks self.new) ≡ after (state S.Store.blocks self.old) (clear host) }
+        ensures { (clear_answer result, state S.blocks self.new) ≡ after (state S.blocks self.old) (clear host) }
     {
         let caller = self.controller.caller(host)?;
         if self.controller.host(caller).transaction.is_some() {
@@ -57,7 +57,7 @@ impl<S: Store> Device<S> {
 
     /// Hands a host's notice over and removes it, or says none.
     pub fn notice(&mut self, host: u8) -> Result<Option<Status>, Status>
-        ensures { (notice_answer result, state S.Store.blocks self.new) ≡ after (state S.Store.blocks self.old) (notice host) }
+        ensures { (notice_answer result, state S.blocks self.new) ≡ after (state S.blocks self.old) (notice host) }
     {
         let caller = self.controller.caller(host)?;
         Ok(self.controller.take_notice(caller))
@@ -65,7 +65,7 @@ impl<S: Store> Device<S> {
 
     /// The first store fault since a host's latest accepted message, or none.
     pub fn fault(&mut self, host: u8) -> Result<Option<HostFault>, Status>
-        ensures { (fault_answer result, state S.Store.blocks self.new) ≡ after (state S.Store.blocks self.old) (fault host) }
+        ensures { (fault_answer result, state S.blocks self.new) ≡ after (state S.blocks self.old) (fault host) }
     {
         let caller = self.controller.caller(host)?;
         self.controller.judge_waits();
@@ -78,7 +78,7 @@ impl<S: Store> Device<S> {
         ticket: ExecutionTicket,
         buffer: &mut [u8],
     ) -> Result<Ticket, Returned<ExecutionTicket>>
-        ensures { (segment_answer result buffer.new, state S.Store.blocks self.new) ≡ after (state S.Store.blocks self.old) (segment ticket buffer.old) }
+        ensures { (segment_answer result buffer.new, state S.blocks self.new) ≡ after (state S.blocks self.old) (segment ticket buffer.old) }
     {
         let Some((caller, transaction)) = self.controller.fitting(ticket.pass()) else {
             return Err(Returned {
@@ -106,7 +106,7 @@ impl<S: Store> Device<S> {
 
     /// Ends a transaction before its report. Blocks that were moved stay.
     pub fn cancel(&mut self, ticket: Ticket) -> Result<(), Returned<Ticket>>
-        ensures { (cancel_answer result, state S.Store.blocks self.new) ≡ after (state S.Store.blocks self.old) (cancel ticket) }
+        ensures { (cancel_answer result, state S.blocks self.new) ≡ after (state S.blocks self.old) (cancel ticket) }
     {
         let Some((caller, _)) = self.controller.fitting(ticket.pass()) else {
             return Err(Returned {
@@ -125,7 +125,7 @@ impl<S: Store> Device<S> {
         ticket: ReportTicket,
         buffer: &mut [u8],
     ) -> Result<(), Returned<ReportTicket>>
-        ensures { (report_answer result buffer.new, state S.Store.blocks self.new) ≡ after (state S.Store.blocks self.old) (report ticket buffer.old) }
+        ensures { (report_answer result buffer.new, state S.blocks self.new) ≡ after (state S.blocks self.old) (report ticket buffer.old) }
     {
         let Some((caller, open)) = self.controller.fitting(ticket.pass()) else {
             return Err(Returned {
@@ -171,16 +171,16 @@ impl<S: Store> Device<S> {
 
     /// How many blocks the store has.
     pub fn size(&self) -> u32
-        ensures { result ≡ length (S.Store.blocks self.now.store) }
+        ensures { result ≡ length (S.blocks self.now.store) }
     {
         self.store.size()
     }
 
     /// Settles the store, ends the device, and hands the store back.
     pub fn power_off(self) -> S
-        ensures same { S.Store.blocks result ≡ S.Store.blocks self.store }
-        ensures settled { S.Store.settled result }
-        ensures holds { S.Store.stored result ≡ S.Store.blocks self.store }
+        ensures same { S.blocks result ≡ S.blocks self.store }
+        ensures settled { S.settled result }
+        ensures holds { S.stored result ≡ S.blocks self.store }
     {
         let Device {
             controller: _,
@@ -195,15 +195,15 @@ impl<S: Store> Device<S> {
 /// Of every device so built: isolation, in the form asked for and in a stronger one; exclusion; that no wait outlives its cause; what a refused call leaves;
 /// that there are runs that meet all that isolation asks for; and a table of what messages come to on a small device.
 pub fn power_on<S: Store>(number: u32, map: UnitMap, store: S) -> Device<S>
-    ensures made { state S.Store.blocks result ≡ at_power_on number map (S.Store.blocks store) }
-    ensures isolation { IsolationFrom (state S.Store.blocks result) }
-    ensures apartness { ApartnessFrom (state S.Store.blocks result) }
-    ensures exclusion { ExclusionFrom (state S.Store.blocks result) }
-    ensures waits { WaitsFrom (state S.Store.blocks result) }
-    ensures refusals { RefusalsFrom (state S.Store.blocks result) }
-    ensures moving { MovingFrom (state S.Store.blocks result) }
-    ensures transfers { TransfersFrom (state S.Store.blocks result) }
-    ensures describing { DescribingFrom (state S.Store.blocks result) }
+    ensures made { state S.blocks result ≡ at_power_on number map (S.blocks store) }
+    ensures isolation { IsolationFrom (state S.blocks result) }
+    ensures apartness { ApartnessFrom (state S.blocks result) }
+    ensures exclusion { ExclusionFrom (state S.blocks result) }
+    ensures waits { WaitsFrom (state S.blocks result) }
+    ensures refusals { RefusalsFrom (state S.blocks result) }
+    ensures moving { MovingFrom (state S.blocks result) }
+    ensures transfers { TransfersFrom (state S.blocks result) }
+    ensures describing { DescribingFrom (state S.blocks result) }
     ensures sampled { Sampled }
     ensures table { Table }
 {

@@ -8,7 +8,7 @@ use store::store::Store;
 
 /// Ends a ticket for good, as its bearer's last act: its transaction is cancelled, and a ticket that the device refuses is void.
 pub fn give_up<S: Store>(device: &mut Device<S>, ticket: Ticket)
-    ensures { state S.Store.blocks device.new ≡ (after (state S.Store.blocks device.old) (cancel ticket)).1 }
+    ensures { state S.blocks device.new ≡ (after (state S.blocks device.old) (cancel ticket)).1 }
 {
     match device.cancel(ticket) {
         Ok(()) => {}

@@ -41,33 +41,33 @@ impl<S: Store> WriteGuard<S> {
 }
 
 impl<S: Store> Store for WriteGuard<S> {
-    ghost blocks = { λ s. guarded S.Store.blocks s };
+    ghost blocks = { λ s. guarded S.blocks s };
 
-    ghost stored = { λ s. guarded S.Store.stored s };
+    ghost stored = { λ s. guarded S.stored s };
 
-    ghost settled = { λ s. S.Store.settled s.below };
+    ghost settled = { λ s. S.settled s.below };
 
-    ghost lawful = { λ s. guard_lawful (S.Store.blocks s.below) (S.Store.stored s.below) (S.Store.settled s.below) s.run (S.Store.lawful s.below) };
+    ghost lawful = { λ s. guard_lawful (S.blocks s.below) (S.stored s.below) (S.settled s.below) s.run (S.Store.lawful s.below) };
 
     fn size(&self) -> u32 {
         self.below.size()
     }
 
     fn read(&mut self, block: u32, buffer: &mut [u8]) -> Result<(), StoreFault>
-        ensures answer { result ≡ read_answer (guarded S.Store.blocks self.old) block buffer.old }
-        ensures buffer { buffer.new ≡ read_buffer (guarded S.Store.blocks self.old) block buffer.old }
-        ensures same { guarded S.Store.blocks self.new ≡ guarded S.Store.blocks self.old }
-        ensures below { S.Store.blocks self.new.below ≡ S.Store.blocks self.old.below }
+        ensures answer { result ≡ read_answer (guarded S.blocks self.old) block buffer.old }
+        ensures buffer { buffer.new ≡ read_buffer (guarded S.blocks self.old) block buffer.old }
+        ensures same { guarded S.blocks self.new ≡ guarded S.blocks self.old }
+        ensures below { S.blocks self.new.below ≡ S.blocks self.old.below }
         ensures run { self.new.run ≡ self.old.run }
     {
         self.below.read(block, buffer)
     }
 
     fn write(&mut self, block: u32, bytes: &[u8]) -> Result<(), StoreFault>
-        ensures answer { result ≡ write_answer (guarded S.Store.blocks self.old) block bytes.now }
-        ensures after { guarded S.Store.blocks self.new ≡ written (guarded S.Store.blocks self.old) block bytes.now }
-        ensures below { S.Store.blocks self.new.below ≡ guard_below (S.Store.blocks self.old.below) self.old.run block bytes.now }
-        ensures stays { RunStays (S.Store.blocks self.old.below) (S.Store.blocks self.new.below) self.old.run }
+        ensures answer { result ≡ write_answer (guarded S.blocks self.old) block bytes.now }
+        ensures after { guarded S.blocks self.new ≡ written (guarded S.blocks self.old) block bytes.now }
+        ensures below { S.blocks self.new.below ≡ guard_below (S.blocks self.old.below) self.old.run block bytes.now }
+        ensures stays { RunStays (S.blocks self.old.below) (S.blocks self.new.below) self.old.run }
         ensures run { self.new.run ≡ self.old.run }
     {
         if bytes.len() != BLOCK_BYTES {
@@ -93,9 +93,9 @@ impl<S: Store> Store for WriteGuard<S> {
     }
 
     fn settle(&mut self)
-        ensures same { guarded S.Store.blocks self.new ≡ guarded S.Store.blocks self.old }
-        ensures settled { S.Store.settled self.new.below }
-        ensures below { S.Store.blocks self.new.below ≡ S.Store.blocks self.old.below }
+        ensures same { guarded S.blocks self.new ≡ guarded S.blocks self.old }
+        ensures settled { S.settled self.new.below }
+        ensures below { S.blocks self.new.below ≡ S.blocks self.old.below }
         ensures run { self.new.run ≡ self.old.run }
     {
         self.below.settle()

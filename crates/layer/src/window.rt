@@ -47,7 +47,7 @@ impl<S: Store> Window<S> {
 
     /// The number that a block of the window has below.
     fn place(&self, block: u32) -> Result<u32, StoreFault>
-        ensures { result ≡ number_below (S.Store.blocks self.now.below) self.now.run block }
+        ensures { result ≡ number_below (S.blocks self.now.below) self.now.run block }
     {
         if block < self.size() {
             Ok(self.run.first + block)
@@ -58,23 +58,23 @@ impl<S: Store> Window<S> {
 }
 
 impl<S: Store> Store for Window<S> {
-    ghost blocks = { λ s. windowed S.Store.blocks s };
+    ghost blocks = { λ s. windowed S.blocks s };
 
-    ghost stored = { λ s. windowed S.Store.stored s };
+    ghost stored = { λ s. windowed S.stored s };
 
-    ghost settled = { λ s. S.Store.settled s.below };
+    ghost settled = { λ s. S.settled s.below };
 
-    ghost lawful = { λ s. window_lawful (S.Store.blocks s.below) (S.Store.stored s.below) (S.Store.settled s.below) s.run (S.Store.lawful s.below) };
+    ghost lawful = { λ s. window_lawful (S.blocks s.below) (S.stored s.below) (S.settled s.below) s.run (S.Store.lawful s.below) };
 
     fn size(&self) -> u32 {
         self.run.count_in(self.below.size())
     }
 
     fn read(&mut self, block: u32, buffer: &mut [u8]) -> Result<(), StoreFault>
-        ensures answer { result ≡ read_answer (windowed S.Store.blocks self.old) block buffer.old }
-        ensures buffer { buffer.new ≡ read_buffer (windowed S.Store.blocks self.old) block buffer.old }
-        ensures same { windowed S.Store.blocks self.new ≡ windowed S.Store.blocks self.old }
-        ensures below { S.Store.blocks self.new.below ≡ S.Store.blocks self.old.below }
+        ensures answer { result ≡ read_answer (windowed S.blocks self.old) block buffer.old }
+        ensures buffer { buffer.new ≡ read_buffer (windowed S.blocks self.old) block buffer.old }
+        ensures same { windowed S.blocks self.new ≡ windowed S.blocks self.old }
+        ensures below { S.blocks self.new.below ≡ S.blocks self.old.below }
         ensures run { self.new.run ≡ self.old.run }
     {
         if buffer.len() != BLOCK_BYTES {
@@ -85,10 +85,10 @@ impl<S: Store> Store for Window<S> {
     }
 
     fn write(&mut self, block: u32, bytes: &[u8]) -> Result<(), StoreFault>
-        ensures answer { result ≡ write_answer (windowed S.Store.blocks self.old) block bytes.now }
-        ensures after { windowed S.Store.blocks self.new ≡ written (windowed S.Store.blocks self.old) block bytes.now }
-        ensures below { S.Store.blocks self.new.below ≡ window_below (S.Store.blocks self.old.below) self.old.run block bytes.now }
-        ensures outside { OutsideStays (S.Store.blocks self.old.below) (S.Store.blocks self.new.below) self.old.run }
+        ensures answer { result ≡ write_answer (windowed S.blocks self.old) block bytes.now }
+        ensures after { windowed S.blocks self.new ≡ written (windowed S.blocks self.old) block bytes.now }
+        ensures below { S.blocks self.new.below ≡ window_below (S.blocks self.old.below) self.old.run block bytes.now }
+        ensures outside { OutsideStays (S.blocks self.old.below) (S.blocks self.new.below) self.old.run }
         ensures run { self.new.run ≡ self.old.run }
     {
         if bytes.len() != BLOCK_BYTES {
@@ -104,9 +104,9 @@ impl<S: Store> Store for Window<S> {
     }
 
     fn settle(&mut self)
-        ensures same { windowed S.Store.blocks self.new ≡ windowed S.Store.blocks self.old }
-        ensures settled { S.Store.settled self.new.below }
-        ensures below { S.Store.blocks self.new.below ≡ S.Store.blocks self.old.below }
+        ensures same { windowed S.blocks self.new ≡ windowed S.blocks self.old }
+        ensures settled { S.settled self.new.below }
+        ensures below { S.blocks self.new.below ≡ S.blocks self.old.below }
         ensures run { self.new.run ≡ self.old.run }
     {
         self.below.settle()

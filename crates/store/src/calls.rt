@@ -7,17 +7,17 @@ use super::store::Store;
 
 /// Writes a block, and says what whoever reads the store afterwards gets.
 pub fn put_block<S: Store>(store: &mut S, block: u32, bytes: &[u8]) -> Result<(), StoreFault>
-    ensures answer { result ≡ write_answer (S.Store.blocks store.old) block bytes.now }
-    ensures after { S.Store.blocks store.new ≡ written (S.Store.blocks store.old) block bytes.now }
-    ensures law { WriteLaw (S.Store.blocks store.old) block bytes.now result (S.Store.blocks store.new) }
+    ensures answer { result ≡ write_answer (S.blocks store.old) block bytes.now }
+    ensures after { S.blocks store.new ≡ written (S.blocks store.old) block bytes.now }
+    ensures law { WriteLaw (S.blocks store.old) block bytes.now result (S.blocks store.new) }
 {
     store.write(block, bytes)
 }
 
 /// A block's bytes.
 pub fn fetch_block<S: Store>(store: &mut S, block: u32) -> Result<[u8; BLOCK_BYTES], StoreFault>
-    ensures answer { result ≡ fetched (S.Store.blocks store.old) block }
-    ensures same { S.Store.blocks store.new ≡ S.Store.blocks store.old }
+    ensures answer { result ≡ fetched (S.blocks store.old) block }
+    ensures same { S.blocks store.new ≡ S.blocks store.old }
 {
     let mut bytes = [0u8; BLOCK_BYTES];
     store.read(block, &mut bytes)?;
@@ -26,9 +26,9 @@ pub fn fetch_block<S: Store>(store: &mut S, block: u32) -> Result<[u8; BLOCK_BYT
 
 /// Settles a store, so that the memory at its bottom holds what the store means.
 pub fn settle_down<S: Store>(store: &mut S)
-    ensures same { S.Store.blocks store.new ≡ S.Store.blocks store.old }
-    ensures settled { S.Store.settled store.new }
-    ensures holds { S.Store.stored store.new ≡ S.Store.blocks store.old }
+    ensures same { S.blocks store.new ≡ S.blocks store.old }
+    ensures settled { S.settled store.new }
+    ensures holds { S.stored store.new ≡ S.blocks store.old }
 {
     store.settle()
 }

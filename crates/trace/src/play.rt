@@ -17,8 +17,8 @@ pub struct Played<S> {
 
 /// Powers a device on over a store, makes the calls of a trace, and powers it off.
 pub fn play<S: Store>(store: S, head: Head<'_>, calls: &[u8], output: &mut [u8]) -> Played<S>
-    ensures plays { Plays (heading head.entry) calls.now (S.Store.blocks store) output.old (tells (S.Store.blocks result.store) output.new result.ending) }
-    ensures settled { result.ending.how ≢ How.NoMap → S.Store.settled result.store }
+    ensures plays { Plays (heading head.entry) calls.now (S.blocks store) output.old (tells (S.blocks result.store) output.new result.ending) }
+    ensures settled { result.ending.how ≢ How.NoMap → S.settled result.store }
 {
     let Ok(map) = head.map() else {
         return Played {

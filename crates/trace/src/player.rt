@@ -15,7 +15,7 @@ use store::store::Store;
 #[tactic(auto, unfolding(crate::specs::Makings::made))]
 fn make<S: Store>(session: &mut Session<S>, call: Call<'_>, buffer: &mut [u8]) -> Answer
     requires { buffer_size (entry call) ≤ length buffer.old }
-    ensures { comes_to result buffer.new (world S.Store.blocks session.new) ≡ made (world S.Store.blocks session.old) (entry call.entry) buffer.old }
+    ensures { comes_to result buffer.new (world S.blocks session.new) ≡ made (world S.blocks session.old) (entry call.entry) buffer.old }
 {
     match call {
         Call::Command { host, message } => session.command(host, message),
@@ -41,8 +41,8 @@ fn make<S: Store>(session: &mut Session<S>, call: Call<'_>, buffer: &mut [u8]) -
 /// many bytes that was, or none where the room is too small.
 fn step<S: Store>(session: &mut Session<S>, call: Call<'_>, room: &mut [u8]) -> Option<usize>
     ensures size { result ≡ (if has_room (entry call.entry) room.old then Some (room_for (entry call.entry)) else None) }
-    ensures room { room.new ≡ (if has_room (entry call.entry) room.old then written_in (made_in (world S.Store.blocks session.old) (entry call.entry) room.old) (drop (room_for (entry call.entry)) room.old) else room.old) }
-    ensures after { world S.Store.blocks session.new ≡ (if has_room (entry call.entry) room.old then (made_in (world S.Store.blocks session.old) (entry call.entry) room.old).world else world S.Store.blocks session.old) }
+    ensures room { room.new ≡ (if has_room (entry call.entry) room.old then written_in (made_in (world S.blocks session.old) (entry call.entry) room.old) (drop (room_for (entry call.entry)) room.old) else room.old) }
+    ensures after { world S.blocks session.new ≡ (if has_room (entry call.entry) room.old then (made_in (world S.blocks session.old) (entry call.entry) room.old).world else world S.blocks session.old) }
 {
     let end = ANSWER_BYTES + call.buffer_size();
     if room.len() < end {
@@ -56,7 +56,7 @@ fn step<S: Store>(session: &mut Session<S>, call: Call<'_>, room: &mut [u8]) -> 
 /// Makes the calls of a trace, until it ends or one cannot be made.
 pub(super) fn run<S: Store>(session: &mut Session<S>, calls: &[u8], output: &mut [u8]) -> Ending
     requires { length output.old < 2 ^ 56 }
-    ensures { runs_to (world S.Store.blocks session.new) output.new result ≡ course (world S.Store.blocks session.old) calls.now output.old }
+    ensures { runs_to (world S.blocks session.new) output.new result ≡ course (world S.blocks session.old) calls.now output.old }
 {
     let mut left = calls;
     let mut written = 0;

@@ -68,9 +68,9 @@ impl Span {
     )
         requires within { k < segment_of self.now.transaction }
         requires whole { length part.old ≡ 256 }
-        ensures fault { first.new ≡ first_fault first.old (met_by (converted (read_at (self.now.first + k) (slice_get (S.Store.blocks store.old) (self.now.first + k)))) self.now.transaction.unit (self.now.transaction.at + k)) }
-        ensures part { part.new ≡ buffer_at zeros (slice_get (S.Store.blocks store.old) (self.now.first + k)) }
-        ensures same { S.Store.blocks store.new ≡ S.Store.blocks store.old }
+        ensures fault { first.new ≡ first_fault first.old (met_by (converted (read_at (self.now.first + k) (slice_get (S.blocks store.old) (self.now.first + k)))) self.now.transaction.unit (self.now.transaction.at + k)) }
+        ensures part { part.new ≡ buffer_at zeros (slice_get (S.blocks store.old) (self.now.first + k)) }
+        ensures same { S.blocks store.new ≡ S.blocks store.old }
     {
         if let Err(refusal) = store.read(self.first + k, part) {
             self.miss(k, refusal, part, first);
@@ -80,9 +80,9 @@ impl Span {
     /// Reads the blocks into the front of the buffer, and tells the first fault.
     pub(super) fn read<S: Store>(&self, store: &mut S, buffer: &mut [u8]) -> Option<HostFault>
         requires room { 256 * segment_of self.now.transaction ≤ length buffer.old }
-        ensures fault { result ≡ read_fault self.now.transaction.unit self.now.first self.now.transaction.at (in_span self.now (S.Store.blocks store.old)) }
-        ensures buffer { buffer.new ≡ read_bytes (in_span self.now (S.Store.blocks store.old)) ++ drop (256 * segment_of self.now.transaction) buffer.old }
-        ensures same { S.Store.blocks store.new ≡ S.Store.blocks store.old }
+        ensures fault { result ≡ read_fault self.now.transaction.unit self.now.first self.now.transaction.at (in_span self.now (S.blocks store.old)) }
+        ensures buffer { buffer.new ≡ read_bytes (in_span self.now (S.blocks store.old)) ++ drop (256 * segment_of self.now.transaction) buffer.old }
+        ensures same { S.blocks store.new ≡ S.blocks store.old }
     {
         let mut fault = None;
         for k in 0..self.count() {
@@ -97,8 +97,8 @@ impl Span {
     /// Reads the blocks to see whether they can be read, and tells the first fault.
     #[tactic(auto, using(crate::proofs::ReadTurns::fault_more))]
     pub(super) fn verify<S: Store>(&self, store: &mut S) -> Option<HostFault>
-        ensures fault { result ≡ read_fault self.now.transaction.unit self.now.first self.now.transaction.at (in_span self.now (S.Store.blocks store.old)) }
-        ensures same { S.Store.blocks store.new ≡ S.Store.blocks store.old }
+        ensures fault { result ≡ read_fault self.now.transaction.unit self.now.first self.now.transaction.at (in_span self.now (S.blocks store.old)) }
+        ensures same { S.blocks store.new ≡ S.blocks store.old }
     {
         // One loop for this and `read` would ask for each block where its bytes go, and be no shorter.
         let mut scratch = [0u8; BLOCK_BYTES];
@@ -115,8 +115,8 @@ impl Span {
     fn write_one<S: Store>(&self, store: &mut S, k: u32, part: &[u8]) -> Result<(), HostFault>
         requires within { k < segment_of self.now.transaction }
         requires whole { length part.now ≡ 256 }
-        ensures fault { result_err result ≡ met_by (converted (write_at (self.now.first + k) (slice_get (S.Store.blocks store.old) (self.now.first + k)))) self.now.transaction.unit (self.now.transaction.at + k) }
-        ensures after { S.Store.blocks store.new ≡ written (S.Store.blocks store.old) (self.now.first + k) part.now }
+        ensures fault { result_err result ≡ met_by (converted (write_at (self.now.first + k) (slice_get (S.blocks store.old) (self.now.first + k)))) self.now.transaction.unit (self.now.transaction.at + k) }
+        ensures after { S.blocks store.new ≡ written (S.blocks store.old) (self.now.first + k) part.now }
     {
         store
             .write(self.first + k, part)
@@ -126,9 +126,9 @@ impl Span {
     /// Writes the blocks from the front of the buffer until one refuses, and tells how many were tried and the fault.
     pub(super) fn write<S: Store>(&self, store: &mut S, buffer: &[u8]) -> (u32, Option<HostFault>)
         requires room { 256 * segment_of self.now.transaction ≤ length buffer.now }
-        ensures tried { result.0 ≡ write_tried self.now.first (in_span self.now (S.Store.blocks store.old)) }
-        ensures fault { result.1 ≡ write_fault self.now.transaction.unit self.now.first self.now.transaction.at (in_span self.now (S.Store.blocks store.old)) }
-        ensures after { S.Store.blocks store.new ≡ laid (S.Store.blocks store.old) self.now.first (put self.now.first (in_span self.now (S.Store.blocks store.old)) buffer.now) }
+        ensures tried { result.0 ≡ write_tried self.now.first (in_span self.now (S.blocks store.old)) }
+        ensures fault { result.1 ≡ write_fault self.now.transaction.unit self.now.first self.now.transaction.at (in_span self.now (S.blocks store.old)) }
+        ensures after { S.blocks store.new ≡ laid (S.blocks store.old) self.now.first (put self.now.first (in_span self.now (S.blocks store.old)) buffer.now) }
     {
         for k in 0..self.count() {
             let from = BLOCK_BYTES * k as usize;

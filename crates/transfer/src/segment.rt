@@ -45,9 +45,9 @@ fn not_tried(transaction: Transaction) -> Progress
 #[tactic(auto, unfolding(crate::specs::Segments::moved_by_command), using(crate::proofs::Spans::length_span))]
 fn move_blocks<S: Store>(store: &mut S, blocks: Span, buffer: &mut [u8]) -> Progress
     requires { holds_blocks blocks.transaction buffer.old ≡ true }
-    ensures progress { result ≡ (moved_by_command blocks.transaction.command blocks.transaction blocks.first (in_span blocks (S.Store.blocks store.old)) buffer.old).progress }
-    ensures buffer { buffer.new ≡ (moved_by_command blocks.transaction.command blocks.transaction blocks.first (in_span blocks (S.Store.blocks store.old)) buffer.old).buffer }
-    ensures after { S.Store.blocks store.new ≡ laid (S.Store.blocks store.old) blocks.first (moved_by_command blocks.transaction.command blocks.transaction blocks.first (in_span blocks (S.Store.blocks store.old)) buffer.old).put }
+    ensures progress { result ≡ (moved_by_command blocks.transaction.command blocks.transaction blocks.first (in_span blocks (S.blocks store.old)) buffer.old).progress }
+    ensures buffer { buffer.new ≡ (moved_by_command blocks.transaction.command blocks.transaction blocks.first (in_span blocks (S.blocks store.old)) buffer.old).buffer }
+    ensures after { S.blocks store.new ≡ laid (S.blocks store.old) blocks.first (moved_by_command blocks.transaction.command blocks.transaction blocks.first (in_span blocks (S.blocks store.old)) buffer.old).put }
 {
     let transaction = blocks.transaction;
     match transaction.command {
@@ -74,9 +74,9 @@ fn move_in_unit<S: Store>(
 ) -> Progress
     requires lies { lies_in map.now transaction ≡ true }
     requires holds { holds_blocks transaction buffer.old ≡ true }
-    ensures progress { result ≡ (moved_over map.now (S.Store.blocks store.old) transaction buffer.old).progress }
-    ensures buffer { buffer.new ≡ (moved_over map.now (S.Store.blocks store.old) transaction buffer.old).buffer }
-    ensures after { S.Store.blocks store.new ≡ laid (S.Store.blocks store.old) (start_of map.now (Some transaction)) (moved_over map.now (S.Store.blocks store.old) transaction buffer.old).put }
+    ensures progress { result ≡ (moved_over map.now (S.blocks store.old) transaction buffer.old).progress }
+    ensures buffer { buffer.new ≡ (moved_over map.now (S.blocks store.old) transaction buffer.old).buffer }
+    ensures after { S.blocks store.new ≡ laid (S.blocks store.old) (start_of map.now (Some transaction)) (moved_over map.now (S.blocks store.old) transaction buffer.old).put }
 {
     match map.block(transaction.unit, transaction.at) {
         Some(first) => move_blocks(store, Span { transaction, first }, buffer),
@@ -117,11 +117,11 @@ pub fn execute_segment<S: Store>(
     transaction: Transaction,
     buffer: &mut [u8],
 ) -> Result<Progress, Status>
-    ensures progress { result ≡ progress_by (refusal_of map.now transaction (message_of map.now host transaction) buffer.old) (executed_over map.now (S.Store.blocks store.old) host transaction buffer.old) }
-    ensures buffer { buffer.new ≡ buffer_by (refusal_of map.now transaction (message_of map.now host transaction) buffer.old) (executed_over map.now (S.Store.blocks store.old) host transaction buffer.old) buffer.old }
-    ensures after { S.Store.blocks store.new ≡ blocks_by (refusal_of map.now transaction (message_of map.now host transaction) buffer.old) (executed_over map.now (S.Store.blocks store.old) host transaction buffer.old) (S.Store.blocks store.old) (start_of map.now (Some transaction)) }
-    ensures law { SegmentLaw result transaction (start_of map.now (Some transaction)) (segment_of transaction) (S.Store.blocks store.old) (S.Store.blocks store.new) buffer.old buffer.new }
-    ensures describing { DescribeLaw result map.now host transaction (S.Store.blocks store.old) (S.Store.blocks store.new) buffer.old buffer.new }
+    ensures progress { result ≡ progress_by (refusal_of map.now transaction (message_of map.now host transaction) buffer.old) (executed_over map.now (S.blocks store.old) host transaction buffer.old) }
+    ensures buffer { buffer.new ≡ buffer_by (refusal_of map.now transaction (message_of map.now host transaction) buffer.old) (executed_over map.now (S.blocks store.old) host transaction buffer.old) buffer.old }
+    ensures after { S.blocks store.new ≡ blocks_by (refusal_of map.now transaction (message_of map.now host transaction) buffer.old) (executed_over map.now (S.blocks store.old) host transaction buffer.old) (S.blocks store.old) (start_of map.now (Some transaction)) }
+    ensures law { SegmentLaw result transaction (start_of map.now (Some transaction)) (segment_of transaction) (S.blocks store.old) (S.blocks store.new) buffer.old buffer.new }
+    ensures describing { DescribeLaw result map.now host transaction (S.blocks store.old) (S.blocks store.new) buffer.old buffer.new }
 {
     admit(map, transaction, buffer)?;
     if transaction.describes() {
