@@ -1,6 +1,6 @@
--- Blocks made from their numbers, with one of them changed.
-use Rattle.std.proofs.Common.{◌≡◌, ℕ, ◌<◌, ◌≤◌, set, Some, sym, ap, ◌∙◌, inl, inr}
-use Rattle.std.specs.List.{slice_get}
+-- Blocks made from their numbers, with one of them changed, and lists made alike.
+use Rattle.std.proofs.Common.{◌≡◌, ℕ, zero, suc, ◌+◌, ◌<◌, ◌≤◌, ◌∷◌, map, set, Some, refl, sym, ap, ◌∙◌, inl, inr, arith}
+use Rattle.std.specs.List.{slice_get, range_with_len}
 use Rattle.std.specs.Option.{option_map}
 use Rattle.std.proofs.lemmas.Bool.{cases_eq, cases_lt}
 use Rattle.store.specs.Blocks.{Block}
@@ -31,3 +31,10 @@ set_numbered n f g b x here other = same_nth (blocks_by n g) (set (blocks_by n f
 
     at : (i : ℕ) → slice_get (blocks_by n g) i ≡ slice_get (set (blocks_by n f) b x) i
     at i = elim (cases_lt i n) [ inl h ↦ below i h | inr h ↦ past i h ]
+
+-- what is made of numbers is the same where the same is made of each of them
+pub same_made : {X : Type 0} (f g : ℕ → X) (a n : ℕ) → ((i : ℕ) → a ≤ i → i < a + n → f i ≡ g i) → map f (range_with_len a n) ≡ map g (range_with_len a n)
+same_made f g a zero same = refl
+same_made f g a (suc n) same =
+    ap (λ x. x ∷ map f (range_with_len (a + 1) n)) (same a (omega arith) (omega arith))
+    ∙ ap (λ l. g a ∷ l) (same_made f g (a + 1) n (λ i low high. same i (omega arith) (omega arith)))

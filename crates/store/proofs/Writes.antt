@@ -1,5 +1,5 @@
 -- What a write leaves at each block, and so what every reader gets after it.
-use Rattle.std.proofs.Common.{◌≡◌, ℕ, Bool, true, false, cond, eqb, List, length, Some, None, Ok, Err, Option, sym, refl, ap, ◌∙◌, inl, inr}
+use Rattle.std.proofs.Common.{◌≡◌, ℕ, zero, suc, Bool, true, false, cond, eqb, List, [], ◌∷◌, length, set, Some, None, Ok, Err, Option, sym, refl, ap, ◌∙◌, inl, inr}
 use Rattle.std.specs.List.{slice_get}
 use Rattle.std.specs.Option.{option_map}
 use Rattle.std.proofs.lemmas.List.{length-set}
@@ -7,7 +7,7 @@ use Rattle.std.proofs.lemmas.Bool.{cases_Bool, cases_eq, eqb-true}
 use Rattle.store.specs.declared.fault.StoreFault.{StoreFault}
 use Rattle.store.specs.declared.fault.Protection.{Protection}
 use Rattle.store.specs.declared.fault.Protection.TheVariants as protections
-use Rattle.store.specs.Blocks.{Block, if_whole, open_block, protection_at, taken, taken_of, write_at, write_of, write_answer, written, written_at, written_of}
+use Rattle.store.specs.Blocks.{Block, if_whole, open_block, protection_at, protections_of, taken, taken_of, write_at, write_of, write_answer, written, written_at, written_of}
 use Rattle.store.specs.Laws.{Gives, ReadsAlike, WriteLaw}
 use Rattle.store.proofs.Nth.{nth_set_same, nth_set_other}
 
@@ -114,3 +114,22 @@ module _ (bs : List Block) (b : ℕ) (bytes : List ℕ) where
     count = length_written bs b bytes;
     protection = protection_written;
   }
+
+-- a block in the place of one of the same protection
+protections_set : (bs : List Block) (b : ℕ) (k x : Block) → slice_get bs b ≡ Some k → x.protection ≡ k.protection → protections_of (set bs b x) ≡ protections_of bs
+protections_set [] b k x e p = refl
+protections_set (y ∷ ys) zero k x e p = let f : y ≡ k = cc in ap (λ q. q ∷ protections_of ys) (p ∙ ap (λ (j : Block). j.protection) (sym f))
+protections_set (y ∷ ys) (suc b) k x e p = ap (λ l. y.protection ∷ l) (protections_set ys b k x e p)
+
+-- no write changes whether a block may be written
+pub protections_written : (bs : List Block) (b : ℕ) (bytes : List ℕ) → protections_of (written bs b bytes) ≡ protections_of bs
+protections_written bs b bytes = whole (eqb (length bytes) 256) (slice_get bs b) refl
+  where
+    of : (k : Block) (p : Protection) → slice_get bs b ≡ Some k → k.protection ≡ p → protections_of (written_of bs b bytes p) ≡ protections_of bs
+    of k protections.Open e f = protections_set bs b k (open_block bytes) e (sym f)
+    of k protections.Protected e f = refl
+
+    whole : (t : Bool) (o : Option Block) → slice_get bs b ≡ o → protections_of (cond t (written_at bs b bytes o) bs) ≡ protections_of bs
+    whole true None e = refl
+    whole true (Some k) e = of k k.protection e refl
+    whole false o e = refl

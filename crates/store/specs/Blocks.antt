@@ -1,5 +1,5 @@
 -- What a block store is, and what each call of one answers and leaves.
-use Rattle.std.specs.Prelude.{◌≡◌, ℕ, ◌≤◌, Bool, true, false, cond, List, length, Some, None, Ok, Err, Option, Result, ◌==◌, slice_set}
+use Rattle.std.specs.Prelude.{◌≡◌, ℕ, ◌≤◌, Bool, true, false, cond, List, map, length, Some, None, Ok, Err, Option, Result, ◌==◌, slice_set}
 use Rattle.std.specs.List.{slice_get}
 use Rattle.store.specs.declared.fault.FaultKind.{FaultKind}
 use Rattle.store.specs.declared.fault.FaultKind.TheVariants as kinds
@@ -121,6 +121,10 @@ protection_answer bs b = protection_at b (slice_get bs b)
 abbrev pub is_open : Protection → Bool
 is_open protections.Open = true
 is_open protections.Protected = false
+
+-- Whether each block may be written.
+abbrev pub protections_of : List Block → List Protection
+protections_of bs = map (λ k. k.protection) bs
 
 -- There is a block, and it is open: so it can be written.
 abbrev pub is_open_at : Option Block → Bool

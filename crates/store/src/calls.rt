@@ -10,6 +10,7 @@ pub fn put_block<S: Store>(store: &mut S, block: u32, bytes: &[u8]) -> Result<()
     ensures answer { result ≡ write_answer (S.blocks store.old) block bytes.now }
     ensures after { S.blocks store.new ≡ written (S.blocks store.old) block bytes.now }
     ensures law { WriteLaw (S.blocks store.old) block bytes.now result (S.blocks store.new) }
+    ensures base { S.base_of store.new ≡ S.base_of store.old }
 {
     store.write(block, bytes)
 }
@@ -18,6 +19,7 @@ pub fn put_block<S: Store>(store: &mut S, block: u32, bytes: &[u8]) -> Result<()
 pub fn fetch_block<S: Store>(store: &mut S, block: u32) -> Result<[u8; BLOCK_BYTES], StoreFault>
     ensures answer { result ≡ fetched (S.blocks store.old) block }
     ensures same { S.blocks store.new ≡ S.blocks store.old }
+    ensures base { S.base_of store.new ≡ S.base_of store.old }
 {
     let mut bytes = [0u8; BLOCK_BYTES];
     store.read(block, &mut bytes)?;
@@ -29,6 +31,7 @@ pub fn settle_down<S: Store>(store: &mut S)
     ensures same { S.blocks store.new ≡ S.blocks store.old }
     ensures settled { S.settled store.new }
     ensures holds { S.stored store.new ≡ S.blocks store.old }
+    ensures base { S.base_of store.new ≡ S.base_of store.old }
 {
     store.settle()
 }

@@ -1,4 +1,4 @@
-ghost use Rattle.std.specs.Prelude.{◌≡◌, List, length};
+ghost use Rattle.std.specs.Prelude.{◌≡◌, ℕ, List, length};
 ghost use Rattle.store.specs.Blocks.{Block, Lawful, read_answer, read_buffer, write_answer, written, protection_answer};
 
 use super::fault::{Protection, StoreFault};
@@ -15,7 +15,12 @@ pub trait Store {
     // That nothing is kept back: what is meant has reached the memory at the bottom.
     ghost settled: { Self → Type 0 };
 
-    // What each implementation owes of the three.
+    // What the store stands on: which lent memory is at its bottom, and whatever there no call changes.
+    ghost Base: { Type 0 };
+
+    ghost base_of: { Self → Base };
+
+    // What each implementation owes of blocks, stored and settled.
     ghost lawful: { (s : Self) → Lawful (blocks s) (stored s) (settled s) };
 
     /// How many blocks there are.
@@ -26,12 +31,14 @@ pub trait Store {
     fn read(&mut self, block: u32, buffer: &mut [u8]) -> Result<(), StoreFault>
         ensures answer { result ≡ read_answer (blocks self.old) block buffer.old }
         ensures buffer { buffer.new ≡ read_buffer (blocks self.old) block buffer.old }
-        ensures same { blocks self.new ≡ blocks self.old };
+        ensures same { blocks self.new ≡ blocks self.old }
+        ensures base { base_of self.new ≡ base_of self.old };
 
     /// Makes an open block sound with these bytes.
     fn write(&mut self, block: u32, bytes: &[u8]) -> Result<(), StoreFault>
         ensures answer { result ≡ write_answer (blocks self.old) block bytes.now }
-        ensures after { blocks self.new ≡ written (blocks self.old) block bytes.now };
+        ensures after { blocks self.new ≡ written (blocks self.old) block bytes.now }
+        ensures base { base_of self.new ≡ base_of self.old };
 
     /// Tells whether a block may be written.
     fn protection(&self, block: u32) -> Result<Protection, StoreFault>
@@ -40,5 +47,41 @@ pub trait Store {
     /// Writes down whatever is kept back.
     fn settle(&mut self)
         ensures same { blocks self.new ≡ blocks self.old }
-        ensures settled { settled self.new };
+        ensures settled { settled self.new }
+        ensures base { base_of self.new ≡ base_of self.old };
+}
+
+/// A store that is lent is a store: a pile over it leaves the image to its maker, who learns what the memory holds.
+impl<S: Store> Store for &mut S {
+    ghost blocks = { λ s. S.blocks s.now };
+
+    ghost stored = { λ s. S.stored s.now };
+
+    ghost settled = { λ s. S.settled s.now };
+
+    ghost Base = { ℕ × S.Base };
+
+    ghost base_of = { λ s. (s.ghost_name, S.base_of s.now) };
+
+    ghost lawful = { λ s. S.Store.lawful s.now };
+
+    fn size(&self) -> u32 {
+        (**self).size()
+    }
+
+    fn read(&mut self, block: u32, buffer: &mut [u8]) -> Result<(), StoreFault> {
+        (**self).read(block, buffer)
+    }
+
+    fn write(&mut self, block: u32, bytes: &[u8]) -> Result<(), StoreFault> {
+        (**self).write(block, bytes)
+    }
+
+    fn protection(&self, block: u32) -> Result<Protection, StoreFault> {
+        (**self).protection(block)
+    }
+
+    fn settle(&mut self) {
+        (**self).settle()
+    }
 }
