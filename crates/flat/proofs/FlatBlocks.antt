@@ -8,7 +8,8 @@ use Rattle.store.specs.declared.fault.Protection.TheVariants as protections
 use Rattle.store.specs.Blocks.{Block, damaged, fault, read_of, read_answer, buffer_of, read_buffer, write_of, write_answer, written_of, written, protection_answer}
 use Rattle.image.specs.Memory.{part, laid}
 use Rattle.image.specs.Images.{asked, block_of, blocks_by, harmed}
-use Rattle.flat.specs.Flat.{flat_size, flat_block, flat_blocks, marked, with_mark, without_mark}
+use Rattle.flat.specs.Lengths.{flat_size}
+use Rattle.flat.specs.Flat.{flat_block, flat_blocks, marked, with_mark, without_mark}
 use Rattle.image.specs.Lawful.{length_numbered}
 use Rattle.image.proofs.Numbered.{set_numbered}
 use Rattle.image.proofs.Parts.{length_laid, part_laid, part_laid_apart}

@@ -1,2 +1,3 @@
 pub mod OneBit
 pub mod FlatBlocks
+pub mod Told

@@ -1,13 +1,14 @@
 -- What a flat image means: memory with its blocks one after the other, and a map of one bit a block.
-use Rattle.std.specs.Prelude.{◌≡◌, ℕ, ◌+◌, ◌-◌, ◌*◌, ◌/◌, ◌%◌, ◌^◌, Bool, cond, ◌&&◌, List, length, Some, None, Option, ◌==◌, ◌≢◌, bit_and, bit_or, nat_le, slice_index, slice_set}
-use Rattle.std.specs.Option.{unwrap_or}
+use Rattle.std.specs.Prelude.{◌≡◌, ℕ, ◌-◌, ◌*◌, ◌/◌, ◌%◌, ◌^◌, Bool, true, false, cond, List, length, map, Some, None, Option, ◌==◌, ◌≢◌, bit_and, bit_or, slice_index, slice_set}
+use Rattle.std.specs.List.{slice_get, range_with_len}
 use Rattle.store.specs.declared.fault.Protection.{Protection}
-use Rattle.store.specs.Blocks.{Block}
+use Rattle.store.specs.Blocks.{Block, sound, damaged}
 use Rattle.flat.specs.declared.flat.FlatImage.{FlatImage}
 use Rattle.image.specs.declared.refusal.Refusal.{Refusal}
 use Rattle.image.specs.declared.refusal.Refusal.TheVariants as refusals
 use Rattle.image.specs.Memory.{part}
-use Rattle.image.specs.Images.{block_of, blocks_by, block_limit, unless_refused}
+use Rattle.image.specs.Images.{block_of, blocks_by, unless_refused}
+use Rattle.flat.specs.Lengths.{flat_fits, flat_size}
 
 -- The map has one bit a block, eight to a byte, lowest bit first: 1 for damaged.
 abbrev pub marked : List ℕ → ℕ → Bool
@@ -20,18 +21,6 @@ with_mark damage b = slice_set damage (b / 8) (bit_or (slice_index damage (b / 8
 -- The map with the bit of block b cleared; every other bit stays.
 abbrev pub without_mark : List ℕ → ℕ → List ℕ
 without_mark damage b = slice_set damage (b / 8) (bit_and (slice_index damage (b / 8)) (255 - 2 ^ (b % 8)))
-
--- Lengths fit when the memory is whole blocks, at most 4,194,304, and the map has a bit for each, rounded up to a byte.
-abbrev pub flat_fits : ℕ → ℕ → Bool
-flat_fits bytes damage = bytes % 256 == 0 && (nat_le (bytes / 256) block_limit && damage == (bytes / 256 + 7) / 8)
-
--- How many blocks memory and map of such lengths have, if they fit.
-abbrev pub flat_count : ℕ → ℕ → Option ℕ
-flat_count bytes damage = cond (flat_fits bytes damage) (Some (bytes / 256)) None
-
--- Where they do not fit there are none.
-abbrev pub flat_size : ℕ → ℕ → ℕ
-flat_size bytes damage = unwrap_or (flat_count bytes damage) 0
 
 -- Block b is at byte 256 x b, and its mark in the map.
 abbrev pub flat_block : List ℕ → List ℕ → Protection → ℕ → Block
@@ -52,6 +41,32 @@ flat_offered bytes damage protection = unless_refused (flat_refusal (length byte
 -- What an image of this kind means, from the memory that it holds.
 abbrev pub flat_meaning : FlatImage → List Block
 flat_meaning image = flat_blocks image.bytes.now image.damage.now image.protection
+
+-- The spare marks: the bits of the map that no block has, behind that of the last one.
+abbrev pub spare_marks : ℕ → List ℕ → List Bool
+spare_marks bytes damage = map (marked damage) (range_with_len (flat_size bytes (length damage)) (8 * length damage - flat_size bytes (length damage)))
+
+-- What a flat image stands on, which no call changes: which memory and which map it was lent, its protection, and the spare marks.
+pub record FlatBase : Type 0 where
+  pub memory : ℕ
+  pub marks : ℕ
+  pub protection : Protection
+  pub spare : List Bool
+
+-- What an image of this kind stands on.
+abbrev pub flat_base : FlatImage → FlatBase
+flat_base image = record {
+  memory = image.bytes.ghost_name;
+  marks = image.damage.ghost_name;
+  protection = image.protection;
+  spare = spare_marks (length image.bytes.now) image.damage.now;
+}
+
+-- What a technician would check by hand, of memory and map with these blocks: each sound block's bytes are there, 256 from byte 256 x b on, and its bit is 0; the bit of each damaged one is 1.
+pub record FlatHolds (bytes damage : List ℕ) (blocks : List Block) : Type 0 where
+  pub count : length blocks ≡ flat_size (length bytes) (length damage)
+  pub whole : (b : ℕ) (held : List ℕ) (p : Protection) → slice_get blocks b ≡ Some (record { contents = sound held; protection = p }) → (part bytes (256 * b) 256 ≡ held) × (marked damage b ≡ false)
+  pub lost : (b : ℕ) (p : Protection) → slice_get blocks b ≡ Some (record { contents = damaged; protection = p }) → marked damage b ≡ true
 
 -- Only the bit of block b is changed in the map, and it now reads so; spare bits stay too.
 pub record OnlyMark (before : List ℕ) (b : ℕ) (mark : Bool) (after : List ℕ) : Type 0 where

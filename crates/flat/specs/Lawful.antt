@@ -9,7 +9,8 @@ use Rattle.store.specs.Blocks.{Lawful}
 use Rattle.image.specs.Memory.{part}
 use Rattle.image.specs.Images.{block_limit}
 use Rattle.image.specs.Lawful.{length_part, lawful_numbered}
-use Rattle.flat.specs.Flat.{flat_fits, flat_size, flat_blocks, marked}
+use Rattle.flat.specs.Lengths.{flat_fits, flat_size}
+use Rattle.flat.specs.Flat.{flat_blocks, marked}
 
 -- An image has no more blocks than the limit.
 few_flat : (n m : ℕ) → flat_size n m ≤ block_limit

@@ -1,8 +1,9 @@
-ghost use Rattle.std.specs.Prelude.{◌≡◌, ◌+◌, ◌*◌, ◌/◌, ◌%◌, ◌<◌, ◌≤◌, true, false, [], length, IfOk, if◌then◌else◌, Ok, MatchResult, nat_lt};
+ghost use Rattle.std.specs.Prelude.{◌≡◌, ◌*◌, ◌<◌, true, false, length, if◌then◌else◌, Ok, nat_lt};
 ghost use Rattle.std.specs.Result.{result_err};
 ghost use Rattle.store.specs.Blocks.{read_answer, read_buffer, write_answer, written};
 ghost use Rattle.image.specs.Memory.{laid};
 ghost use Rattle.image.specs.Images.{if_accepted, harmed};
+ghost use Rattle.flat.specs.Lengths.{flat_size};
 
 use super::lengths::flat_count;
 use super::marks::{is_marked, mark, unmark};
@@ -16,35 +17,44 @@ use store::store::Store;
 // One text for this and a raw image would be no plainer: each call's contract says what its own memory holds after,
 // and a trait of the layout would have to carry all of that, for texts of a few lines.
 #[derive(Drop)]
-pub struct FlatImage<'a> {
+pub struct FlatImage<'a, 'd> {
     bytes: &'a mut [u8],
-    damage: &'a mut [u8],
+    damage: &'d mut [u8],
     protection: Protection,
-    ghost whole_blocks: { length bytes.now % 256 ≡ 0 },
-    ghost few_blocks: { length bytes.now / 256 ≤ 4194304 },
-    ghost marks_fit: { length damage.now ≡ (length bytes.now / 256 + 7) / 8 },
+    count: u32,
+    ghost counted: { count ≡ flat_size (length bytes.now) (length damage.now) },
 }
 
-impl<'a> FlatImage<'a> {
-    ghost use Rattle.flat.specs.Flat.{flat_size, flat_meaning, flat_refusal, flat_offered, with_mark, OnlyMark};
+impl<'a, 'd> FlatImage<'a, 'd> {
+    ghost use Rattle.flat.specs.Flat.{flat_meaning, flat_refusal, flat_offered, flat_base, with_mark, FlatHolds, OnlyMark};
 
-    /// Takes memory and map that fit one another as an image.
-    pub fn open(
-        bytes: &'a mut [u8],
-        damage: &'a mut [u8],
-        protection: Protection,
-    ) -> Result<FlatImage<'a>, Refusal>
-        ensures answer { result_err result ≡ flat_refusal (length bytes.old) (length damage.old) }
-        ensures memory { IfOk result (λ image. (image.bytes.now ≡ bytes.old) × (image.damage.now ≡ damage.old) × (image.protection ≡ protection)) }
-        ensures names { IfOk result (λ image. (image.bytes.ghost_name ≡ bytes.entry.ghost_name) × (image.damage.ghost_name ≡ damage.entry.ghost_name)) }
-        ensures blocks { MatchResult result (λ image. flat_meaning image ≡ flat_offered bytes.old damage.old protection) (λ _. flat_offered bytes.old damage.old protection ≡ []) }
+    /// Tells whether memory and map of these lengths, in bytes, fit one another: `Ok`, or the refusal.
+    pub fn check(bytes: usize, damage: usize) -> Result<(), Refusal>
+        ensures { result_err result ≡ flat_refusal bytes damage }
     {
-        flat_count(bytes.len(), damage.len()).ok_or(Refusal::Lengths)?;
-        Ok(FlatImage {
+        flat_count(bytes, damage).ok_or(Refusal::Lengths)?;
+        Ok(())
+    }
+
+    /// Takes memory and map as an image; where `check` refuses their lengths, it has no blocks.
+    pub fn over(
+        bytes: &'a mut [u8],
+        damage: &'d mut [u8],
+        protection: Protection,
+    ) -> FlatImage<'a, 'd>
+        ensures memory { (result.bytes.now ≡ bytes.old) × (result.damage.now ≡ damage.old) × (result.protection ≡ protection) }
+        ensures bytes_name { result.bytes.ghost_name ≡ bytes.entry.ghost_name }
+        ensures damage_name { result.damage.ghost_name ≡ damage.entry.ghost_name }
+        ensures blocks { flat_meaning result ≡ flat_offered bytes.old damage.old protection }
+        ensures law { FlatHolds bytes.old damage.old (flat_meaning result) }
+    {
+        let count = flat_count(bytes.len(), damage.len()).unwrap_or(0);
+        FlatImage {
             bytes,
             damage,
             protection,
-        })
+            count,
+        }
     }
 
     /// The memory, as the image leaves it so far.
@@ -61,12 +71,12 @@ impl<'a> FlatImage<'a> {
         &*self.damage
     }
 
+    /// How many blocks there are.
     fn count(&self) -> u32
         ensures size { result ≡ flat_size (length self.now.bytes.now) (length self.now.damage.now) }
         ensures blocks { result ≡ length (flat_meaning self.now) }
     {
-        // memory and map fit one another, so nothing is asked of them again at each call
-        (self.bytes.len() / BLOCK_BYTES) as u32
+        self.count
     }
 
     /// Marks a block damaged, whatever its protection.
@@ -76,6 +86,7 @@ impl<'a> FlatImage<'a> {
         ensures damage { self.new.damage.now ≡ (if nat_lt block (length (flat_meaning self.old)) then with_mark self.old.damage.now block else self.old.damage.now) }
         ensures protection { self.new.protection ≡ self.old.protection }
         ensures law { block < length (flat_meaning self.old) → OnlyMark self.old.damage.now block true self.new.damage.now }
+        ensures base { flat_base self.new ≡ flat_base self.old }
     {
         if block < self.count() {
             mark(self.damage, block as usize);
@@ -96,8 +107,8 @@ impl<'a> FlatImage<'a> {
     }
 }
 
-impl Store for FlatImage<'_> {
-    ghost use Rattle.flat.specs.Flat.{flat_meaning, without_mark, OnlyMark, SameFlat};
+impl Store for FlatImage<'_, '_> {
+    ghost use Rattle.flat.specs.Flat.{FlatBase, flat_meaning, flat_base, without_mark, OnlyMark, SameFlat};
     ghost use Rattle.flat.specs.Lawful.{flat_lawful};
 
     ghost blocks = { λ s. flat_meaning s };
@@ -105,6 +116,10 @@ impl Store for FlatImage<'_> {
     ghost stored = { λ s. flat_meaning s };
 
     ghost settled = { λ _. Unit {0} };
+
+    ghost Base = { FlatBase };
+
+    ghost base_of = { λ s. flat_base s };
 
     ghost lawful = { λ s. flat_lawful s.bytes.now s.damage.now s.protection };
 
@@ -117,6 +132,7 @@ impl Store for FlatImage<'_> {
         ensures buffer { buffer.new ≡ read_buffer (flat_meaning self.old) block buffer.old }
         ensures same { flat_meaning self.new ≡ flat_meaning self.old }
         ensures memory { SameFlat self.old self.new }
+        ensures base { flat_base self.new ≡ flat_base self.old }
     {
         self.fetch(block, buffer)
     }
@@ -128,6 +144,7 @@ impl Store for FlatImage<'_> {
         ensures damage { self.new.damage.now ≡ if_accepted result (without_mark self.old.damage.now block) self.old.damage.now }
         ensures protection { self.new.protection ≡ self.old.protection }
         ensures law { result ≡ Ok tt → OnlyMark self.old.damage.now block false self.new.damage.now }
+        ensures base { flat_base self.new ≡ flat_base self.old }
     {
         let number = ask(bytes.len(), block, self.count())?;
         self.protection.permit(block)?;
@@ -148,6 +165,7 @@ impl Store for FlatImage<'_> {
         ensures same { flat_meaning self.new ≡ flat_meaning self.old }
         ensures settled { Unit {0} }
         ensures memory { SameFlat self.old self.new }
+        ensures base { flat_base self.new ≡ flat_base self.old }
     {
         // an image keeps nothing back
     }

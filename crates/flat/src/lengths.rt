@@ -1,5 +1,5 @@
 ghost use Rattle.std.specs.Prelude.{◌≡◌};
-ghost use Rattle.flat.specs.Flat.{flat_count};
+ghost use Rattle.flat.specs.Lengths.{flat_count};
 
 use super::marks::MARKS_A_BYTE;
 use image::check::may_have;
