@@ -1,2 +1,3 @@
 pub mod Records
 pub mod RawBlocks
+pub mod Told

@@ -8,7 +8,8 @@ use Rattle.store.specs.declared.fault.Protection.TheVariants as protections
 use Rattle.store.specs.Blocks.{Block, damaged, fault, read_of, read_answer, buffer_of, read_buffer, write_of, write_answer, written_of, written, protection_answer}
 use Rattle.image.specs.Memory.{part}
 use Rattle.image.specs.Images.{asked, block_of, blocks_by, harmed}
-use Rattle.raw.specs.Raw.{raw_record, raw_size, raw_block, raw_blocks, with_data, with_flag, RecordWritten}
+use Rattle.raw.specs.Lengths.{raw_size}
+use Rattle.raw.specs.Raw.{raw_record, raw_block, raw_blocks, with_data, with_flag, RecordWritten}
 use Rattle.image.specs.Lawful.{length_numbered}
 use Rattle.raw.specs.Lawful.{inside_raw}
 use Rattle.image.proofs.Numbered.{set_numbered}
@@ -34,7 +35,7 @@ module _ (bytes : List ℕ) (k v : ℕ) (inside : 276 * k + 276 ≤ length bytes
       ap (λ xs. part xs (276 * m) 276) (set_laid bytes (276 * k) v (omega arith))
       ∙ part_laid_apart bytes (276 * k) (v ∷ []) (omega arith) (276 * m) 276 (apart m k (276 * k) 1 ne (omega arith) (omega arith))
 
-  flag_rest : (from n : ℕ) → 276 * k < from → part (set bytes (276 * k) v) from n ≡ part bytes from n
+  pub flag_rest : (from n : ℕ) → 276 * k < from → part (set bytes (276 * k) v) from n ≡ part bytes from n
   flag_rest from n h =
       ap (λ xs. part xs from n) (set_laid bytes (276 * k) v (omega arith))
       ∙ part_laid_apart bytes (276 * k) (v ∷ []) (omega arith) from n (inr (omega arith))

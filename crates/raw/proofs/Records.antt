@@ -1,12 +1,13 @@
 -- Which record a block has: one of its own, in order, never the spare one of its track.
-use Rattle.std.proofs.Common.{◌≡◌, ℕ, ◌+◌, ◌-◌, ◌*◌, ◌/◌, ◌%◌, ◌<◌, ◌≤◌, true, cond, List, length, get_or, leb, is_some, Some, None, sym, ap, ◌∙◌, inl, inr, add-mul, arith}
+use Rattle.std.proofs.Common.{◌≡◌, ℕ, ◌+◌, ◌-◌, ◌*◌, ◌/◌, ◌%◌, ◌<◌, ◌≤◌, true, false, cond, eqb, List, length, get_or, leb, is_some, Some, None, sym, ap, ◌∙◌, inl, inr, add-mul, arith}
 use Rattle.std.proofs.lemmas.Nat.{div-add-mod', div-mul-add, mod_below, mod-mul-add, mul-le}
-use Rattle.std.proofs.lemmas.Bool.{cases_lt, cases_order, lt-ltb, le-ltb, leb-true, leb-false}
+use Rattle.std.proofs.lemmas.Bool.{cases_lt, cases_order, ne_eqb, lt-ltb, le-ltb, leb-true, leb-false}
 use Rattle.std.specs.List.{position_or_len}
 use Rattle.std.proofs.lemmas.List.Sums.{fails_before_first}
 use Rattle.std.proofs.lemmas.List.Quantifiers.{position-Some}
 use Rattle.std.proofs.lemmas.Bool.Decides.{nat_tests}
-use Rattle.raw.specs.Raw.{place_of, raw_record, raw_count, raw_size, misplaced, FirstMisplaced, Layout}
+use Rattle.raw.specs.Lengths.{raw_count, raw_size}
+use Rattle.raw.specs.Raw.{place_of, raw_record, is_spare, misplaced, FirstMisplaced, Layout}
 
 -- places within one track
 place_below : (s i r : ℕ) → i < r - 1 → place_of s i < r
@@ -63,6 +64,14 @@ module _ (spares : List ℕ) (r : ℕ) (two : 2 ≤ r) where
     sym (div-mul-add (b / per) r (place_of (get_or spares (b / per) 0) (b % per)) (place_in b)) ∙ ap (λ n. n / r) e ∙ div-mul-add t r s h,
     sym (mod-mul-add (b / per) r (place_of (get_or spares (b / per) 0) (b % per)) (place_in b)) ∙ ap (λ n. n % r) e ∙ mod-mul-add t r s h,
   )
+
+  -- a block's record is not the spare one of the track that it is in, wherever that is
+  pub no_spare : (b : ℕ) → is_spare spares r (record_of b) ≡ false
+  no_spare b =
+      let s = get_or spares (b / per) 0 in
+      let q = div-mul-add (b / per) r (place_of s (b % per)) (place_in b) in
+      let m = mod-mul-add (b / per) r (place_of s (b % per)) (place_in b) in
+      ap (λ i. eqb (get_or spares i 0) (record_of b % r)) q ∙ ap (eqb s) m ∙ ne_eqb s (place_of s (b % per)) (λ e. place_apart s (b % per) (sym e))
 
   never_spare : (b t : ℕ) → get_or spares t 0 < r → record_of b ≡ t * r + get_or spares t 0 → ⊥
   never_spare b t h e =

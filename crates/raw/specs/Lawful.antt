@@ -10,7 +10,8 @@ use Rattle.store.specs.Blocks.{Lawful}
 use Rattle.image.specs.Memory.{part}
 use Rattle.image.specs.Images.{block_limit}
 use Rattle.image.specs.Lawful.{length_part, lawful_numbered}
-use Rattle.raw.specs.Raw.{records_fit, raw_fits, raw_size, place_of, raw_record, raw_blocks}
+use Rattle.raw.specs.Lengths.{records_fit, raw_fits, raw_size}
+use Rattle.raw.specs.Raw.{place_of, raw_record, raw_blocks}
 
 -- An image has no more blocks than the limit.
 few_raw : (n t r : ℕ) → raw_size n t r ≤ block_limit

@@ -1,29 +1,14 @@
 -- What a raw image means: memory of whole records in tracks, and one byte a track that tells its spare record.
-use Rattle.std.specs.Prelude.{◌≡◌, ℕ, ◌+◌, ◌-◌, ◌*◌, ◌/◌, ◌%◌, ◌<◌, ◌≤◌, Bool, cond, not, ◌&&◌, List, length, Some, None, Option, ◌==◌, ◌≢◌, nat_le, nat_lt, position, slice_index, slice_index_or, slice_set}
-use Rattle.std.specs.Option.{unwrap_or}
+use Rattle.std.specs.Prelude.{◌≡◌, ℕ, ◌+◌, ◌-◌, ◌*◌, ◌/◌, ◌%◌, ◌<◌, ◌≤◌, Bool, cond, not, List, ◌++◌, length, map, Some, None, Option, ◌==◌, ◌≢◌, nat_le, nat_lt, position, slice_index, slice_index_or, slice_set}
+use Rattle.std.specs.List.{slice_get, range_with_len}
 use Rattle.store.specs.declared.fault.Protection.{Protection}
-use Rattle.store.specs.Blocks.{Block}
+use Rattle.store.specs.Blocks.{Block, sound, damaged}
 use Rattle.raw.specs.declared.raw.RawImage.{RawImage}
 use Rattle.image.specs.declared.refusal.Refusal.{Refusal}
 use Rattle.image.specs.declared.refusal.Refusal.TheVariants as refusals
 use Rattle.image.specs.Memory.{part, laid}
-use Rattle.image.specs.Images.{block_of, blocks_by, block_limit, unless_refused}
-
--- A track has 2 to 256 records.
-abbrev pub records_fit : ℕ → Bool
-records_fit records = nat_le 2 records && nat_le records 256
-
--- Lengths fit when the memory is 276 bytes for each record of each track, and the blocks, all records but one a track, are at most 4,194,304.
-abbrev pub raw_fits : ℕ → ℕ → ℕ → Bool
-raw_fits bytes tracks records = records_fit records && (bytes == 276 * (records * tracks) && nat_le (tracks * (records - 1)) block_limit)
-
--- How many blocks memory of such a length has in so many tracks, if they fit.
-abbrev pub raw_count : ℕ → ℕ → ℕ → Option ℕ
-raw_count bytes tracks records = cond (raw_fits bytes tracks records) (Some (tracks * (records - 1))) None
-
--- Where they do not fit there are none.
-abbrev pub raw_size : ℕ → ℕ → ℕ → ℕ
-raw_size bytes tracks records = unwrap_or (raw_count bytes tracks records) 0
+use Rattle.image.specs.Images.{block_of, blocks_by, unless_refused}
+use Rattle.raw.specs.Lengths.{records_fit, raw_fits, raw_size}
 
 -- The blocks of a track are its records in order, the spare one passed over: so block i of a track is at place i before the spare place, and at i + 1 from there on.
 abbrev pub place_of : ℕ → ℕ → ℕ
@@ -75,6 +60,42 @@ raw_meaning image = raw_blocks image.bytes.now image.spares.now image.records im
 -- The record of its block b.
 abbrev pub image_record : RawImage → ℕ → ℕ
 image_record image b = raw_record image.spares.now image.records b
+
+-- A record is the spare one of its track: its place in the track is the one that the track's byte tells.
+abbrev pub is_spare : List ℕ → ℕ → ℕ → Bool
+is_spare spares records m = slice_index spares (m / records) == m % records
+
+-- What of a record no block tells: all of a spare one, and of each other one its header from byte 1 on, its CRC and its ECC.
+abbrev pub record_rest : List ℕ → List ℕ → ℕ → ℕ → List ℕ
+record_rest bytes spares records m =
+    cond (is_spare spares records m) (part bytes (276 * m) 276) (part bytes (276 * m + 1) 5 ++ part bytes (276 * m + 262) 14)
+
+-- The same of every record of the memory.
+abbrev pub records_rest : List ℕ → List ℕ → ℕ → List (List ℕ)
+records_rest bytes spares records = map (record_rest bytes spares records) (range_with_len 0 (records * length spares))
+
+-- What a raw image stands on, which no call changes: which memory it was lent, the spare places, the records of a track, its protection, and what of the records no block tells.
+pub record RawBase : Type 0 where
+  pub memory : ℕ
+  pub spares : List ℕ
+  pub records : ℕ
+  pub protection : Protection
+  pub rest : List (List ℕ)
+
+-- What an image of this kind stands on.
+abbrev pub raw_base : RawImage → RawBase
+raw_base image = record {
+  memory = image.bytes.ghost_name;
+  spares = image.spares.now;
+  records = image.records;
+  protection = image.protection;
+  rest = records_rest image.bytes.now image.spares.now image.records;
+}
+
+-- What a technician would check by hand, of memory with these blocks: each sound block's bytes are the data of its record, whose header byte 0 is 0; that of a damaged one is not.
+pub record RawHolds (bytes spares : List ℕ) (records : ℕ) (blocks : List Block) : Type 0 where
+  pub whole : (b : ℕ) (held : List ℕ) (p : Protection) → slice_get blocks b ≡ Some (record { contents = sound held; protection = p }) → (part bytes (276 * raw_record spares records b + 6) 256 ≡ held) × (slice_index bytes (276 * raw_record spares records b) ≡ 0)
+  pub lost : (b : ℕ) (p : Protection) → slice_get blocks b ≡ Some (record { contents = damaged; protection = p }) → slice_index bytes (276 * raw_record spares records b) ≢ 0
 
 -- Nothing that an image of this kind holds is changed.
 pub record SameRaw (before after : RawImage) : Type 0 where

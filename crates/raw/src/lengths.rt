@@ -1,5 +1,5 @@
 ghost use Rattle.std.specs.Prelude.{◌≡◌};
-ghost use Rattle.raw.specs.Raw.{records_fit, raw_count};
+ghost use Rattle.raw.specs.Lengths.{records_fit, raw_count};
 
 use super::tracks::RECORD_BYTES;
 use image::check::may_have;

@@ -1,7 +1,8 @@
-ghost use Rattle.std.specs.Prelude.{◌≡◌, ◌+◌, ◌-◌, ◌*◌, ◌<◌, ◌≤◌, [], length, IfOk, if◌then◌else◌, Ok, MatchResult, nat_lt};
+ghost use Rattle.std.specs.Prelude.{◌≡◌, ◌+◌, ◌-◌, ◌*◌, ◌<◌, ◌≤◌, [], None, length, IfOk, if◌then◌else◌, Ok, MatchResult, nat_lt};
 ghost use Rattle.std.specs.Result.{result_err};
 ghost use Rattle.store.specs.Blocks.{read_answer, read_buffer, write_answer, written};
 ghost use Rattle.image.specs.Images.{if_accepted, harmed};
+ghost use Rattle.raw.specs.Lengths.{raw_size};
 
 use super::lengths::{raw_count, records_fit};
 use super::tracks::{HEADER_BYTES, first_misplaced, record_start};
@@ -24,40 +25,49 @@ pub struct RawImage<'a> {
     spares: &'a [u8],
     records: u32,
     protection: Protection,
-    ghost two_records: { 2 ≤ records },
-    ghost most_records: { records ≤ 256 },
-    ghost few_blocks: { length spares.now * (records - 1) ≤ 4194304 },
-    ghost whole_tracks: { length bytes.now ≡ 276 * (records * length spares.now) },
+    count: u32,
+    ghost counted: { count ≡ raw_size (length bytes.now) (length spares.now) records },
 }
 
 impl<'a> RawImage<'a> {
-    ghost use Rattle.raw.specs.Raw.{raw_size, raw_meaning, image_record, raw_refusal, raw_offered, with_flag, Layout, SpareTold};
+    ghost use Rattle.raw.specs.Raw.{raw_meaning, image_record, raw_refusal, raw_blocks, raw_base, with_flag, Layout, RawHolds, SpareTold};
 
-    /// Takes memory and spare places that fit one another as an image.
-    pub fn open(
-        bytes: &'a mut [u8],
-        spares: &'a [u8],
-        records: u32,
-        protection: Protection,
-    ) -> Result<RawImage<'a>, Refusal>
-        ensures answer { result_err result ≡ raw_refusal (length bytes.old) spares.now records }
-        ensures memory { IfOk result (λ image. (image.bytes.now ≡ bytes.old) × (image.spares.now ≡ spares.now) × (image.records ≡ records) × (image.protection ≡ protection)) }
-        ensures names { IfOk result (λ image. (image.bytes.ghost_name ≡ bytes.entry.ghost_name) × (image.spares ≡ spares.entry)) }
-        ensures blocks { MatchResult result (λ image. raw_meaning image ≡ raw_offered bytes.old spares.now records protection) (λ _. raw_offered bytes.old spares.now records protection ≡ []) }
-        ensures law { MatchResult result (λ image. Layout spares.now records (length (raw_meaning image))) (SpareTold spares.now records) }
+    /// Tells whether memory of this length, in bytes, is an image with these spare places, one byte a track, and so many
+    /// records a track: `Ok`, or the refusal.
+    pub fn check(bytes: usize, spares: &[u8], records: u32) -> Result<(), Refusal>
+        ensures answer { result_err result ≡ raw_refusal bytes spares.now records }
+        ensures law { MatchResult result (λ _. Layout spares.now records (raw_size bytes (length spares.now) records)) (SpareTold spares.now records) }
     {
         if !records_fit(records) {
             return Err(Refusal::Records);
         }
-        raw_count(bytes.len(), spares.len(), records).ok_or(Refusal::Lengths)?;
+        raw_count(bytes, spares.len(), records).ok_or(Refusal::Lengths)?;
         match first_misplaced(spares, records) {
             Some(track) => Err(Refusal::Spare { track }),
-            None => Ok(RawImage {
-                bytes,
-                spares,
-                records,
-                protection,
-            }),
+            None => Ok(()),
+        }
+    }
+
+    /// Takes memory and spare places as an image. Where their lengths or the records do not fit, it has no blocks; a spare
+    /// place that is not in its track, which `check` refuses too, is behind each of its blocks.
+    pub fn over(
+        bytes: &'a mut [u8],
+        spares: &'a [u8],
+        records: u32,
+        protection: Protection,
+    ) -> RawImage<'a>
+        ensures memory { (result.bytes.now ≡ bytes.old) × (result.spares.now ≡ spares.now) × (result.records ≡ records) × (result.protection ≡ protection) }
+        ensures bytes_name { result.bytes.ghost_name ≡ bytes.entry.ghost_name }
+        ensures blocks { raw_meaning result ≡ raw_blocks bytes.old spares.now records protection }
+        ensures law { RawHolds bytes.old spares.now records (raw_meaning result) }
+    {
+        let count = raw_count(bytes.len(), spares.len(), records).unwrap_or(0);
+        RawImage {
+            bytes,
+            spares,
+            records,
+            protection,
+            count,
         }
     }
 
@@ -82,6 +92,7 @@ impl<'a> RawImage<'a> {
         ensures spares { self.new.spares.now ≡ self.old.spares.now }
         ensures records { self.new.records ≡ self.old.records }
         ensures protection { self.new.protection ≡ self.old.protection }
+        ensures base { raw_base self.new ≡ raw_base self.old }
     {
         if block < self.count() {
             let at = self.start(block);
@@ -89,12 +100,12 @@ impl<'a> RawImage<'a> {
         }
     }
 
+    /// How many blocks there are.
     fn count(&self) -> u32
         ensures size { result ≡ raw_size (length self.now.bytes.now) (length self.now.spares.now) self.now.records }
         ensures blocks { result ≡ length (raw_meaning self.now) }
     {
-        // memory and spare places fit one another, so nothing is asked of them again at each call
-        self.spares.len() as u32 * (self.records - 1)
+        self.count
     }
 
     /// The byte at which the record of a block begins.
@@ -122,7 +133,7 @@ impl<'a> RawImage<'a> {
 }
 
 impl Store for RawImage<'_> {
-    ghost use Rattle.raw.specs.Raw.{raw_meaning, image_record, with_data, SameRaw, RecordWritten};
+    ghost use Rattle.raw.specs.Raw.{RawBase, raw_meaning, raw_base, image_record, with_data, SameRaw, RecordWritten};
     ghost use Rattle.raw.specs.Lawful.{raw_lawful};
 
     ghost blocks = { λ s. raw_meaning s };
@@ -130,6 +141,10 @@ impl Store for RawImage<'_> {
     ghost stored = { λ s. raw_meaning s };
 
     ghost settled = { λ _. Unit {0} };
+
+    ghost Base = { RawBase };
+
+    ghost base_of = { λ s. raw_base s };
 
     ghost lawful = { λ s. raw_lawful s.bytes.now s.spares.now s.records s.protection };
 
@@ -142,6 +157,7 @@ impl Store for RawImage<'_> {
         ensures buffer { buffer.new ≡ read_buffer (raw_meaning self.old) block buffer.old }
         ensures same { raw_meaning self.new ≡ raw_meaning self.old }
         ensures memory { SameRaw self.old self.new }
+        ensures base { raw_base self.new ≡ raw_base self.old }
     {
         self.fetch(block, buffer)
     }
@@ -153,6 +169,7 @@ impl Store for RawImage<'_> {
         ensures spares { self.new.spares.now ≡ self.old.spares.now }
         ensures records { self.new.records ≡ self.old.records }
         ensures protection { self.new.protection ≡ self.old.protection }
+        ensures base { raw_base self.new ≡ raw_base self.old }
         ensures law { result ≡ Ok tt → RecordWritten self.old.bytes.now (image_record self.old block) bytes.now self.new.bytes.now }
     {
         ask(bytes.len(), block, self.count())?;
@@ -175,6 +192,7 @@ impl Store for RawImage<'_> {
         ensures same { raw_meaning self.new ≡ raw_meaning self.old }
         ensures settled { Unit {0} }
         ensures memory { SameRaw self.old self.new }
+        ensures base { raw_base self.new ≡ raw_base self.old }
     {
         // an image keeps nothing back
     }

@@ -2,9 +2,12 @@ use Rattle.std.proofs.Common.{◌≡◌, ◌+◌, ◌-◌, ◌*◌, ◌<◌, len
 use Rattle.std.proofs.lemmas.List.{length-take, length-drop}
 use Rattle.store.proofs.Writes.{permitted}
 use Rattle.image.proofs.Parts.{copied, laid_over}
-use Rattle.raw.specs.Raw.{raw_record, raw_size}
+use Rattle.raw.specs.Lengths.{raw_size}
+use Rattle.raw.specs.Raw.{raw_record, with_data}
 use Rattle.raw.specs.Lawful.{inside_raw}
 use Rattle.raw.proofs.RawBlocks.{raw_writes, raw_wrote, writes_record}
+use Rattle.raw.proofs.Records.{records_two, no_spare}
+use Rattle.raw.proofs.Told.{rest_stays}
 use Rattle.raw.proofs.raw.RawImageStore.write.Goals as goal
 
 pub returns-in_err-permit : goal.returns-in_err-permit
@@ -21,4 +24,7 @@ returns c =
     let l = laid_over (set s.bytes.now (276 * raw_record s.spares.now s.records c.args.block) 0) from (from + 256 - from) c.args.bytes.now (omega arith) in
     let k = c.start-at.ensures.inside in
     let done = c.copy_block.ensures ∙ copied _ _ w (simp (length-take, length-drop, length-set) (omega (arith, k))) in
+    let two = records_two (length s.bytes.now) (length s.spares.now) s.records c.args.block h in
+    let number = raw_record s.spares.now s.records c.args.block in
+    let r = rest_stays s.bytes.now (with_data s.bytes.now number c.args.bytes.now) s.spares.now s.records number g.others g.header g.trailer (no_spare s.spares.now s.records two c.args.block) in
     search rules

@@ -1,0 +1,63 @@
+-- What memory tells of the blocks, and what a change of one block's record leaves of the rest.
+use Rattle.std.proofs.Common.{◌≡◌, ℕ, ◌+◌, ◌*◌, ◌≤◌, Bool, true, false, cond, not, eqb, List, ◌++◌, length, get_or, Some, None, refl, sym, ap, ◌∙◌, inl, inr, arith}
+use Rattle.std.specs.List.{slice_get}
+use Rattle.std.proofs.lemmas.Bool.{cases_eq, cases_lt, eqb-true, eq-eqb}
+use Rattle.store.specs.declared.fault.Protection.{Protection}
+use Rattle.store.specs.Blocks.{Block, sound, damaged}
+use Rattle.image.specs.Memory.{part}
+use Rattle.image.specs.Images.{block_of}
+use Rattle.image.specs.Lawful.{nth_numbered, nth_numbered_past}
+use Rattle.image.proofs.Numbered.{same_made}
+use Rattle.image.proofs.Parts.{part_part}
+use Rattle.raw.specs.Lengths.{raw_size}
+use Rattle.raw.specs.Raw.{raw_record, raw_block, raw_blocks, is_spare, record_rest, records_rest, RawHolds}
+
+-- memory in which, of one record, only header byte 0 and the data are changed
+module _ (before after spares : List ℕ) (r k : ℕ)
+    (others : (m : ℕ) → (m ≡ k → ⊥) → part after (276 * m) 276 ≡ part before (276 * m) 276)
+    (header : part after (276 * k + 1) 5 ≡ part before (276 * k + 1) 5)
+    (trailer : part after (276 * k + 262) 14 ≡ part before (276 * k + 262) 14) where
+  within : (m from n : ℕ) → from + n ≤ 276 → (m ≡ k → ⊥) → part after (276 * m + from) n ≡ part before (276 * m + from) n
+  within m from n h ne = sym (part_part after (276 * m) 276 from n h) ∙ ap (λ xs. part xs from n) (others m ne) ∙ part_part before (276 * m) 276 from n h
+
+  rest_of : (spare : Bool) (m : ℕ) → (spare ≡ true → m ≡ k → ⊥)
+      → cond spare (part after (276 * m) 276) (part after (276 * m + 1) 5 ++ part after (276 * m + 262) 14) ≡ cond spare (part before (276 * m) 276) (part before (276 * m + 1) 5 ++ part before (276 * m + 262) 14)
+  rest_of true m ne = others m (ne refl)
+  rest_of false m ne = elim (cases_eq m k) [
+    | inl e ↦ rw (e, header, trailer) refl
+    | inr n ↦ rw (within m 1 5 (omega arith) n, within m 262 14 (omega arith) n) refl
+  ]
+
+  pub rest_stays : is_spare spares r k ≡ false → records_rest after spares r ≡ records_rest before spares r
+  rest_stays other = same_made (record_rest after spares r) (record_rest before spares r) 0 (r * length spares) (λ m _ _. rest_of (is_spare spares r m) m (λ spare e. let f : true ≡ false = sym spare ∙ ap (is_spare spares r) e ∙ other in absurd cc))
+
+-- one block, by its flag and data
+contents_by : (mark : Bool) (xs : List ℕ) (p : Protection) (x : Block) → Some (block_of mark xs p) ≡ Some x → cond mark damaged (sound xs) ≡ x.contents
+contents_by mark xs p x e = let f : block_of mark xs p ≡ x = cc in ap (λ (k : Block). k.contents) f
+
+sound_by : (flag : ℕ) (xs held : List ℕ) (zero : Bool) → eqb flag 0 ≡ zero → cond (not zero) damaged (sound xs) ≡ sound held → (xs ≡ held) × (flag ≡ 0)
+sound_by flag xs held true z e = (cc, eqb-true flag 0 z)
+sound_by flag xs held false z e = absurd cc
+
+damaged_by : (flag : ℕ) (xs : List ℕ) (zero : Bool) → eqb flag 0 ≡ zero → cond (not zero) damaged (sound xs) ≡ damaged → flag ≡ 0 → ⊥
+damaged_by flag xs true z e is = absurd cc
+damaged_by flag xs false z e is = let f : true ≡ false = sym (eq-eqb flag 0 is) ∙ z in absurd cc
+
+module _ (bytes spares : List ℕ) (r : ℕ) (p : Protection) where
+  abbrev flag : ℕ → ℕ
+  flag b = get_or bytes (276 * raw_record spares r b) 0
+
+  abbrev content : ℕ → List ℕ
+  content b = part bytes (276 * raw_record spares r b + 6) 256
+
+  made_here : (b : ℕ) (x : Block) → slice_get (raw_blocks bytes spares r p) b ≡ Some x → cond (not (eqb (flag b) 0)) damaged (sound (content b)) ≡ x.contents
+  made_here b x e = elim (cases_lt b (raw_size (length bytes) (length spares) r)) [
+    | inl h ↦ contents_by (not (eqb (flag b) 0)) (content b) p x (sym (nth_numbered (raw_size (length bytes) (length spares) r) (raw_block bytes spares r p) b h) ∙ e)
+    | inr h ↦ let f : None ≡ Some x = sym (nth_numbered_past (raw_size (length bytes) (length spares) r) (raw_block bytes spares r p) b h) ∙ e in absurd cc
+  ]
+
+  pub raw_holds : RawHolds bytes spares r (raw_blocks bytes spares r p)
+  raw_holds = record {
+    whole = λ b held q e. sound_by (flag b) (content b) held (eqb (flag b) 0) refl (made_here b (record { contents = sound held; protection = q }) e);
+    lost = λ b q e is. damaged_by (flag b) (content b) (eqb (flag b) 0) refl (made_here b (record { contents = damaged; protection = q }) e) is;
+  }
