@@ -6,7 +6,7 @@ use Rattle.std.specs.Option.{option_map}
 use Rattle.store.specs.declared.fault.StoreFault.{StoreFault}
 use Rattle.store.specs.declared.fault.Protection.{Protection}
 use Rattle.store.specs.declared.fault.Protection.TheVariants as protections
-use Rattle.store.specs.Blocks.{Block, written, Whole, Sized, Lawful}
+use Rattle.store.specs.Blocks.{Block, protections_of, written, Whole, Sized, Lawful}
 use Rattle.layer.specs.declared.run.Run.{Run}
 use Rattle.layer.specs.declared.guard.WriteGuard.{WriteGuard}
 use Rattle.layer.specs.Runs.{in_run}
@@ -24,6 +24,16 @@ guard bs run = each (λ i. shut (in_run run i)) bs
 -- What a write guard shows of what the store below has.
 abbrev pub guarded : {S : Type 0} → (S → List Block) → WriteGuard S → List Block
 guarded below w = guard (below w.below) w.run
+
+-- What a write guard stands on, which no call changes: what the store below stands on, the run, and which blocks below may be written, which is not shown of the run.
+pub record GuardBase (Below : Type 0) : Type 0 where
+  pub below : Below
+  pub run : Run
+  pub protections : List Protection
+
+-- What a write guard stands on, from what the store below stands on and means.
+abbrev pub guard_base : {S Below : Type 0} → (S → Below) → (S → List Block) → WriteGuard S → GuardBase Below
+guard_base base_of blocks w = record { below = base_of w.below; run = w.run; protections = protections_of (blocks w.below) }
 
 -- The answer to the protection question, from the answer below: protected in the run, if there is such a block.
 abbrev pub tightened : Result Protection StoreFault → Bool → Result Protection StoreFault

@@ -19,6 +19,20 @@ window bs run = take run.count (drop run.first bs)
 abbrev pub windowed : {S : Type 0} → (S → List Block) → Window S → List Block
 windowed below w = window (below w.below) w.run
 
+-- The blocks that a window does not show: those before its run, and those behind it.
+abbrev pub outside : List Block → Run → List Block × List Block
+outside bs run = (take run.first bs, drop (run.first + run.count) bs)
+
+-- What a window stands on, which no call changes: what the store below stands on, the run, and the blocks that are not shown.
+pub record WindowBase (Below : Type 0) : Type 0 where
+  pub below : Below
+  pub run : Run
+  pub others : List Block × List Block
+
+-- What a window stands on, from what the store below stands on and means.
+abbrev pub window_base : {S Below : Type 0} → (S → Below) → (S → List Block) → Window S → WindowBase Below
+window_base base_of blocks w = record { below = base_of w.below; run = w.run; others = outside (blocks w.below) w.run }
+
 -- A fault from below is given with the number that the window's user gave; nothing else is changed.
 abbrev pub renumbered : {T : Type 0} → Result T StoreFault → ℕ → Result T StoreFault
 renumbered (Ok x) b = Ok x

@@ -1,6 +1,8 @@
-ghost use Rattle.std.specs.Prelude.{◌≡◌};
-ghost use Rattle.store.specs.Blocks.{read_answer, read_buffer, write_answer, written};
-ghost use Rattle.layer.specs.Guards.{guarded, guard_lawful, guard_below, RunStays};
+ghost use Rattle.std.specs.Prelude.{◌≡◌, List};
+ghost use Rattle.store.specs.Blocks.{Block, read_answer, read_buffer, write_answer, written};
+ghost use Rattle.store.specs.declared.fault.Protection.{Protection};
+ghost use Rattle.layer.specs.declared.run.Run.{Run};
+ghost use Rattle.layer.specs.Guards.{GuardBase, guard_base, guarded, guard_lawful, guard_below, RunStays};
 
 use super::run::Run;
 use store::fault::{BLOCK_BYTES, FaultKind, Protection, StoreFault};
@@ -47,6 +49,10 @@ impl<S: Store> Store for WriteGuard<S> {
 
     ghost settled = { λ s. S.settled s.below };
 
+    ghost Base = { GuardBase S.Base };
+
+    ghost base_of = { λ s. guard_base S.base_of S.blocks s };
+
     ghost lawful = { λ s. guard_lawful (S.blocks s.below) (S.stored s.below) (S.settled s.below) s.run (S.Store.lawful s.below) };
 
     fn size(&self) -> u32 {
@@ -59,6 +65,7 @@ impl<S: Store> Store for WriteGuard<S> {
         ensures same { guarded S.blocks self.new ≡ guarded S.blocks self.old }
         ensures below { S.blocks self.new.below ≡ S.blocks self.old.below }
         ensures run { self.new.run ≡ self.old.run }
+        ensures base { guard_base S.base_of S.blocks self.new ≡ guard_base S.base_of S.blocks self.old }
     {
         self.below.read(block, buffer)
     }
@@ -69,6 +76,7 @@ impl<S: Store> Store for WriteGuard<S> {
         ensures below { S.blocks self.new.below ≡ guard_below (S.blocks self.old.below) self.old.run block bytes.now }
         ensures stays { RunStays (S.blocks self.old.below) (S.blocks self.new.below) self.old.run }
         ensures run { self.new.run ≡ self.old.run }
+        ensures base { guard_base S.base_of S.blocks self.new ≡ guard_base S.base_of S.blocks self.old }
     {
         if bytes.len() != BLOCK_BYTES {
             return Err(FaultKind::Length.at(block));
@@ -97,6 +105,7 @@ impl<S: Store> Store for WriteGuard<S> {
         ensures settled { S.settled self.new.below }
         ensures below { S.blocks self.new.below ≡ S.blocks self.old.below }
         ensures run { self.new.run ≡ self.old.run }
+        ensures base { guard_base S.base_of S.blocks self.new ≡ guard_base S.base_of S.blocks self.old }
     {
         self.below.settle()
     }

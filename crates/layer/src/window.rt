@@ -1,6 +1,7 @@
-ghost use Rattle.std.specs.Prelude.{◌≡◌};
-ghost use Rattle.store.specs.Blocks.{read_answer, read_buffer, write_answer, written};
-ghost use Rattle.layer.specs.Windows.{windowed, window_lawful, number_below, window_below, renumbered, OutsideStays};
+ghost use Rattle.std.specs.Prelude.{◌≡◌, List};
+ghost use Rattle.store.specs.Blocks.{Block, read_answer, read_buffer, write_answer, written};
+ghost use Rattle.layer.specs.declared.run.Run.{Run};
+ghost use Rattle.layer.specs.Windows.{WindowBase, window_base, windowed, window_lawful, number_below, window_below, renumbered, OutsideStays};
 
 use super::run::Run;
 use store::fault::{BLOCK_BYTES, FaultKind, Protection, StoreFault};
@@ -64,6 +65,10 @@ impl<S: Store> Store for Window<S> {
 
     ghost settled = { λ s. S.settled s.below };
 
+    ghost Base = { WindowBase S.Base };
+
+    ghost base_of = { λ s. window_base S.base_of S.blocks s };
+
     ghost lawful = { λ s. window_lawful (S.blocks s.below) (S.stored s.below) (S.settled s.below) s.run (S.Store.lawful s.below) };
 
     fn size(&self) -> u32 {
@@ -76,6 +81,7 @@ impl<S: Store> Store for Window<S> {
         ensures same { windowed S.blocks self.new ≡ windowed S.blocks self.old }
         ensures below { S.blocks self.new.below ≡ S.blocks self.old.below }
         ensures run { self.new.run ≡ self.old.run }
+        ensures base { window_base S.base_of S.blocks self.new ≡ window_base S.base_of S.blocks self.old }
     {
         if buffer.len() != BLOCK_BYTES {
             return Err(FaultKind::Length.at(block));
@@ -90,6 +96,7 @@ impl<S: Store> Store for Window<S> {
         ensures below { S.blocks self.new.below ≡ window_below (S.blocks self.old.below) self.old.run block bytes.now }
         ensures outside { OutsideStays (S.blocks self.old.below) (S.blocks self.new.below) self.old.run }
         ensures run { self.new.run ≡ self.old.run }
+        ensures base { window_base S.base_of S.blocks self.new ≡ window_base S.base_of S.blocks self.old }
     {
         if bytes.len() != BLOCK_BYTES {
             return Err(FaultKind::Length.at(block));
@@ -108,6 +115,7 @@ impl<S: Store> Store for Window<S> {
         ensures settled { S.settled self.new.below }
         ensures below { S.blocks self.new.below ≡ S.blocks self.old.below }
         ensures run { self.new.run ≡ self.old.run }
+        ensures base { window_base S.base_of S.blocks self.new ≡ window_base S.base_of S.blocks self.old }
     {
         self.below.settle()
     }

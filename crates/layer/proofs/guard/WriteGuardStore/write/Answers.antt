@@ -1,4 +1,6 @@
 use Rattle.std.proofs.Common.{Err, sym, ap, ◌∙◌, subst, arith}
+use Rattle.store.specs.Blocks.{protections_of}
+use Rattle.store.proofs.Writes.{protections_written}
 use Rattle.layer.specs.Guards.{guard, RunStays}
 use Rattle.layer.proofs.GuardFacts.{past_write, past_written, run_write, run_written, free_write, free_written, free_stays}
 use Rattle.layer.proofs.guard.WriteGuardStore.write.Goals as goal
@@ -33,3 +35,9 @@ returns-clause-stays g c =
     let s = c.args.self.now in
     let bs = g.S.Store.blocks s.below in
     subst (λ l. RunStays bs l s.run) (sym c.write.ensures.after) (free_stays bs s.run c.args.block c.args.bytes.now c.if-bytes-ne-BLOCK_BYTES.false (sym c.if-contains.ensures))
+
+pub returns-clause-base : goal.returns-clause-base
+returns-clause-base g c =
+    let s = c.args.self.now in
+    let e = ap protections_of c.write.ensures.after ∙ protections_written (g.S.Store.blocks s.below) c.args.block c.args.bytes.now in
+    rw (c.write.ensures.base, e)
