@@ -57,6 +57,7 @@ impl<S: Store> Cache<S> {
     pub fn release(mut self) -> S
         ensures same { S.blocks result ≡ cached_by S.blocks self }
         ensures settled { S.settled result }
+        ensures base { S.base_of result ≡ S.base_of self.below }
     {
         self.settle();
         let Cache {
@@ -70,7 +71,8 @@ impl<S: Store> Cache<S> {
     /// Writes the block of a slot, if it keeps one, to the store below, and keeps it no more.
     fn flush(&mut self, place: usize)
         requires { place < 8 }
-        ensures { held S.blocks self.new ≡ without_block (held S.blocks self.old) (slice_index_or self.old.slots place no_slot).block }
+        ensures held { held S.blocks self.new ≡ without_block (held S.blocks self.old) (slice_index_or self.old.slots place no_slot).block }
+        ensures base { S.base_of self.new.below ≡ S.base_of self.old.below }
     {
         if let Some(block) = self.slots[place].block {
             let _ = self.below.write(block, &self.slots[place].bytes);
@@ -82,6 +84,7 @@ impl<S: Store> Cache<S> {
     fn give_up(&mut self) -> usize
         ensures place { result ≡ turn_place self.old.turn }
         ensures held { held S.blocks self.new ≡ giving_up (held S.blocks self.old) }
+        ensures base { S.base_of self.new.below ≡ S.base_of self.old.below }
     {
         let place = self.turn % SLOTS;
         self.flush(place);
@@ -96,6 +99,7 @@ impl<S: Store> Cache<S> {
         ensures place { result ≡ place_for self.old.slots self.old.turn block }
         ensures within { result < 8 }
         ensures held { held S.blocks self.new ≡ with_room (held S.blocks self.old) block }
+        ensures base { S.base_of self.new.below ≡ S.base_of self.old.below }
     {
         // `unwrap_or_else` was tried: from it the proof learns nothing of `self` where no block is given up
         match own.or_else(|| find(&self.slots, None)) {
@@ -112,6 +116,7 @@ impl<S: Store> Cache<S> {
         ensures held { held S.blocks self.new ≡ keeping (held S.blocks self.old) block bytes.now }
         ensures after { cached_by S.blocks self.new ≡ written (cached_by S.blocks self.old) block bytes.now }
         ensures late { KeptLate (held S.blocks self.old) (held S.blocks self.new) block bytes.now }
+        ensures base { S.base_of self.new.below ≡ S.base_of self.old.below }
     {
         let place = self.room(own, block);
         self.slots[place].fill(block, bytes);
@@ -125,6 +130,7 @@ impl<S: Store> Cache<S> {
         ensures held { held S.blocks self.new ≡ (if is_ok result then keeping (held S.blocks self.old) block buffer.new else held S.blocks self.old) }
         ensures after { cached_by S.blocks self.new ≡ (if is_ok result then written (cached_by S.blocks self.old) block buffer.new else cached_by S.blocks self.old) }
         ensures late { is_ok result ≡ true → KeptLate (held S.blocks self.old) (held S.blocks self.new) block buffer.new }
+        ensures base { S.base_of self.new.below ≡ S.base_of self.old.below }
     {
         self.below.read(block, buffer)?;
         self.keep(None, block, buffer);
@@ -141,6 +147,10 @@ impl<S: Store> Store for Cache<S> {
 
     ghost settled = { λ s. S.settled s.below × (S.blocks s.below ≡ cached_by S.blocks s) };
 
+    ghost Base = { S.Base };
+
+    ghost base_of = { λ s. S.base_of s.below };
+
     ghost lawful = { λ s. cache_lawful (S.blocks s.below) (S.stored s.below) (S.settled s.below) s.slots (S.Store.lawful s.below) };
 
     fn size(&self) -> u32 {
@@ -153,6 +163,7 @@ impl<S: Store> Store for Cache<S> {
         ensures same { cached_by S.blocks self.new ≡ cached_by S.blocks self.old }
         ensures held { held S.blocks self.new ≡ after_read (held S.blocks self.old) block buffer.old }
         ensures late { is_ok result ≡ true → is_open_at (slice_get (S.blocks self.old.below) block) ≡ true → KeptLate (held S.blocks self.old) (held S.blocks self.new) block buffer.new }
+        ensures base { S.base_of self.new.below ≡ S.base_of self.old.below }
     {
         let buffer = buffer.as_mut_array().ok_or(FaultKind::Length.at(block))?;
         if self.below.protection(block) != Ok(Protection::Open) {
@@ -170,6 +181,7 @@ impl<S: Store> Store for Cache<S> {
         ensures after { cached_by S.blocks self.new ≡ written (cached_by S.blocks self.old) block bytes.now }
         ensures held { held S.blocks self.new ≡ after_write (held S.blocks self.old) block bytes.now }
         ensures late { is_ok result ≡ true → KeptLate (held S.blocks self.old) (held S.blocks self.new) block bytes.now }
+        ensures base { S.base_of self.new.below ≡ S.base_of self.old.below }
     {
         let bytes = bytes.as_array().ok_or(FaultKind::Length.at(block))?;
         self.below.protection(block)?.permit(block)?;
@@ -186,6 +198,7 @@ impl<S: Store> Store for Cache<S> {
         ensures same { cached_by S.blocks self.new ≡ cached_by S.blocks self.old }
         ensures settled { S.settled self.new.below × (S.blocks self.new.below ≡ cached_by S.blocks self.new) }
         ensures held { held S.blocks self.new ≡ after_settle (held S.blocks self.old) }
+        ensures base { S.base_of self.new.below ≡ S.base_of self.old.below }
     {
         for slot in self.slots.iter().rev() {
             if let Some(block) = slot.block {

@@ -15,8 +15,8 @@ invariant_of-self g c =
     let once = once_vacant s.slots p (get_or s.slots p no_slot).bytes s.once in
     record { once = subst (λ (l : List Slot). Once (set l p (record { block = None; bytes = (get_or l p no_slot).bytes }))) (sym (set-get_or s.slots p no_slot)) once }
 
-pub returns-in-Some : goal.returns-in-Some
-returns-in-Some g c =
+pub returns-in-Some-clause-held : goal.returns-in-Some-clause-held
+returns-in-Some-clause-held g c =
     let s = c.args.self.now in
     let p = c.args.place in
     let bs = g.S.Store.blocks s.below in

@@ -24,6 +24,7 @@ returns g c =
       held = put;
       after = ap means put ∙ keeping_written h b bytes whole eight;
       late = subst (λ k. KeptLate h k b bytes) (sym put) (keeping_late h b bytes whole eight);
+      base = c.room-place.ensures.base;
     }
 
 pub invariant_of-self : goal.invariant_of-self

@@ -25,6 +25,7 @@ returns-then-ne g c =
           ap (λ l. record { slots = s.slots; below = l; turn = s.turn }) c.read.ensures.same
           ∙ sym (ap (λ t. cond (t && is_ok (read_answer (means h) b buffer)) (keeping h b (read_buffer (means h) b buffer)) h) shut);
       late = λ _ free. absurd (false≢true (sym shut ∙ free));
+      base = c.read.ensures.base;
     }
 
 pub returns-in-Some : goal.returns-in-Some
@@ -50,6 +51,7 @@ returns-in-Some g c =
       same = refl;
       held = sym (keeping_again h b p own) ∙ read_keeps h b buffer free (Ok tt) bytes got.0 got.1;
       late = λ _ _. record { own = kept_here; rest = inl (refl, λ i ne. refl) };
+      base = refl;
     }
 
 pub returns : goal.returns
@@ -76,4 +78,5 @@ returns g c =
           ∙ read_anew bs s.slots b buffer long free missing;
       held = c.fetch.ensures.held ∙ read_keeps h b buffer free c.fetch.result c.fetch.new.buffer answer got;
       late = λ ok _. c.fetch.ensures.late ok;
+      base = c.fetch.ensures.base;
     }

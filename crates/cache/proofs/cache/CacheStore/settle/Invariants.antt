@@ -10,3 +10,4 @@ invariant-loop-slot g l =
     × (l.slot-iterator.iter.rest.now ++ ss ≡ l.fn.self.slots)
     × (g.S.Store.blocks l.self.1.0 ≡ put_all (g.S.Store.blocks l.fn.self.below) ss)
     × WholeSlots ss
+    × (g.S.Store.base_of l.self.1.0 ≡ g.S.Store.base_of l.fn.self.below)
