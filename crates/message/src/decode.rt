@@ -1,8 +1,8 @@
-ghost use Rattle.std.specs.Prelude.{◌≡◌};
+ghost use Rattle.std.specs.Prelude.{◌≡◌, Ok};
 ghost use Rattle.message.specs.Arrangements.{Accepts, Refuses};
-ghost use Rattle.message.specs.Decoding.{amount_set, command_set, decoded, place_set, scan, step, taking, vector_set};
+ghost use Rattle.message.specs.Decoding.{amount_set, decoded, place_set, scan, step, taking, vector_set};
 ghost use Rattle.message.specs.Drafts.{drafted, stepped};
-ghost use Rattle.message.specs.Messages.{with_unit};
+ghost use Rattle.message.specs.Messages.{with_command, with_unit};
 
 use super::command::Command;
 use super::draft::Draft;
@@ -50,13 +50,9 @@ fn set_unit(map: &UnitMap, draft: &mut Draft, number: u8) -> Result<usize, Statu
     Ok(0)
 }
 
-fn set_command(draft: &mut Draft, code: u8) -> Result<usize, Status>
-    ensures { stepped draft.new result ≡ command_set draft.old code }
+fn set_command(draft: &mut Draft, command: Command) -> Result<usize, Status>
+    ensures { stepped draft.new result ≡ Ok (with_command draft.old command, 0) }
 {
-    let command = Command::try_from(code)?;
-    if !draft.takes_command() {
-        return Err(Status::MessageSequence);
-    }
     draft.set_command(command);
     Ok(0)
 }
@@ -80,8 +76,20 @@ fn step(map: &UnitMap, draft: &mut Draft, code: u8, rest: &[u8]) -> Result<usize
         // Set Length
         0x18 if !draft.takes_length() => Err(Status::MessageSequence),
         0x18 => set_length(draft, rest),
-        // a real command, or no code at all
-        _ => set_command(draft, code),
+        // a real command
+        0x00 | 0x02 | 0x04 | 0x0c | 0x63 | 0x6b | 0x73 | 0x7b if !draft.takes_command() => {
+            Err(Status::MessageSequence)
+        }
+        0x00 => set_command(draft, Command::Read),
+        0x02 => set_command(draft, Command::Write),
+        0x04 => set_command(draft, Command::Verify),
+        0x0c => set_command(draft, Command::ExtendedDescribe),
+        0x63 => set_command(draft, Command::SetDeviceLock),
+        0x6b => set_command(draft, Command::DeleteDeviceLock),
+        0x73 => set_command(draft, Command::SetUnitLock),
+        0x7b => set_command(draft, Command::DeleteUnitLock),
+        // no code at all
+        _ => Err(Status::IllegalOpcode),
     }
 }
 
