@@ -1,7 +1,7 @@
 -- A window on every block and a write guard on none change nothing.
 use Rattle.std.proofs.Common.{◌≡◌, ℕ, suc, ◌≤◌, false, List, [], ◌∷◌, length, Option, unwrap_or, refl, ap, ◌∙◌, arith}
 use Rattle.std.proofs.lemmas.List.{take_all}
-use Rattle.store.specs.Blocks.{Block}
+use Rattle.store.specs.Blocks.{Block, most_blocks}
 use Rattle.store.specs.Each.{each_from}
 use Rattle.layer.specs.declared.run.Run.{Run}
 use Rattle.layer.specs.Runs.{in_run, no_blocks, all_blocks}
@@ -20,10 +20,10 @@ none_shut_from i (b ∷ bs) = ap (λ covered. shut covered b ∷ each_from (λ j
 pub guard_none : (bs : List Block) → guard bs no_blocks ≡ bs
 guard_none bs = none_shut_from 0 bs
 
-pub window_whole : (bs : List Block) → length bs ≤ 4194304 → window bs all_blocks ≡ bs
+pub window_whole : (bs : List Block) → length bs ≤ most_blocks → window bs all_blocks ≡ bs
 window_whole bs few = take_all 4294967295 bs (omega arith)
 
-pub plain_layers : {S : Type 0} (blocks : S → List Block) (plan : Plan) (image : S) → length (blocks image) ≤ 4194304 → NoLayer plan → guarded (windowed blocks) (layers plan image) ≡ blocks image
+pub plain_layers : {S : Type 0} (blocks : S → List Block) (plan : Plan) (image : S) → length (blocks image) ≤ most_blocks → NoLayer plan → guarded (windowed blocks) (layers plan image) ≡ blocks image
 plain_layers blocks plan image few none =
     ap (λ (w : Option Run). guard (window (blocks image) (unwrap_or w all_blocks)) (guarded_run plan)) none.0
     ∙ ap (λ (g : Option Run). guard (window (blocks image) all_blocks) (unwrap_or g no_blocks)) none.1

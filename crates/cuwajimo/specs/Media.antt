@@ -1,7 +1,7 @@
 -- The memory of an image that the program makes by itself.
 use Rattle.std.specs.Prelude.{◌≡◌, ℕ, ◌+◌, ◌-◌, ◌*◌, ◌/◌, ◌^◌, min, cond, List, [], ◌∷◌, length, replicate, vec_items, Option, nat_le}
 use Rattle.store.specs.declared.fault.Protection.{Protection}
-use Rattle.store.specs.Blocks.{Block}
+use Rattle.store.specs.Blocks.{Block, most_blocks}
 use Rattle.image.specs.declared.refusal.Refusal.{Refusal}
 use Rattle.flat.specs.Flat.{flat_count, flat_offered, flat_refusal}
 use Rattle.raw.specs.Raw.{raw_count, raw_offered, raw_refusal}
@@ -28,7 +28,7 @@ medium_offered (Raw bytes spares records) protection = raw_offered (vec_items by
 -- A flat image of n blocks in memory: 256 bytes for each and a map of a bit for each, all zero. Of more blocks than an image may have
 -- nothing is made but a map of one byte, which fits no image.
 abbrev pub ZeroFlat : ℕ → Medium → Type 0
-ZeroFlat n (Flat bytes damage) = (vec_items bytes ≡ cond (nat_le n 4194304) (replicate (256 * n) 0) []) × (vec_items damage ≡ cond (nat_le n 4194304) (replicate ((n + 7) / 8) 0) (0 ∷ []))
+ZeroFlat n (Flat bytes damage) = (vec_items bytes ≡ cond (nat_le n most_blocks) (replicate (256 * n) 0) []) × (vec_items damage ≡ cond (nat_le n most_blocks) (replicate ((n + 7) / 8) 0) (0 ∷ []))
 ZeroFlat n (Raw bytes spares records) = ⊥
 
 -- A raw image in memory has 276 bytes for each record of each track. Of tracks with more records than a track may have nothing is made.

@@ -1,4 +1,5 @@
 ghost use Rattle.std.specs.Prelude.{◌≡◌, IfOk, IsOkUnless, if◌then◌else◌, Some, None, nat_le};
+ghost use Rattle.store.specs.Blocks.{most_blocks};
 ghost use Rattle.cuwajimo.specs.Media.{Loaded, ZeroFlat, capped_bytes, ZeroRaw, medium_count};
 ghost use Rattle.cuwajimo.specs.declared.trouble.Trouble.TheVariants.{Memory as NoMemory};
 
@@ -31,7 +32,7 @@ pub enum Medium {
 /// does not fit either, so opening refuses it just the same.
 fn flat(heap: Global, blocks: u32) -> Result<Medium, Trouble>
     ensures memory { IfOk result (ZeroFlat blocks) }
-    ensures count { IfOk result (λ m. medium_count m ≡ (if nat_le blocks 4194304 then Some blocks else None)) }
+    ensures count { IfOk result (λ m. medium_count m ≡ (if nat_le blocks most_blocks then Some blocks else None)) }
     ensures want { IsOkUnless result NoMemory }
 {
     if !may_have(blocks as usize) {

@@ -51,7 +51,7 @@ same_learned : (n c d s b n' c' d' s' b' : ℕ) → n ≡ n' → c ≡ c' → d 
 same_learned n c d s b n' c' d' s' b' en ec ed es eb = rw (en, ec, ed, es, eb) refl
 
 -- what is learned of one unit
-one_learned : (n : ℕ) (u : DiscUnit) → Counted u → size_of u.geometry ≤ 4194304 →
+one_learned : (n : ℕ) (u : DiscUnit) → Counted u → size_of u.geometry ≤ 256 ^ 6 →
     learned (unit_table n u.geometry) ≡ record { number = n; cylinders = u.geometry.cylinders; heads = u.geometry.heads; sectors = u.geometry.sectors; blocks = size_of u.geometry }
 one_learned n u counts small =
     let g = u.geometry in
@@ -64,7 +64,7 @@ one_learned n u counts small =
     (omega arith) (omega (arith, cylinders, counts.cylinders.0)) (omega (arith, counts.heads.0)) (omega (arith, sectors, counts.sectors.0)) (omega (arith, addresses, some))
 
 -- and of all, where each is within its counts and none is too long
-all_learned : (end n : ℕ) (us : List DiscUnit) → end ≤ 4194304 → list_all counted us ≡ true → list_all (inside end) us ≡ true →
+all_learned : (end n : ℕ) (us : List DiscUnit) → end ≤ 256 ^ 6 → list_all counted us ≡ true → list_all (inside end) us ≡ true →
     map learned (filter (λ table. type_in table == 4) (each n us)) ≡ known_from n us
 all_learned end n [] reach counts within = refl
 all_learned end n (u ∷ us) reach counts within =
@@ -102,6 +102,6 @@ module _ (m : UnitMap) (host : ℕ) (rest : List ℕ) where
   read_back =
       let asked : 256 * 0 + host ≡ host = omega arith in
       record {
-        units = ap (λ ts. map learned (filter (λ table. type_in table == 4) ts)) apart ∙ all_learned m.end 0 (listed m) m.reachable m.counts m.within;
+        units = ap (λ ts. map learned (filter (λ table. type_in table == 4) ts)) apart ∙ all_learned m.end 0 (listed m) (omega (arith, m.reachable)) m.counts m.within;
         asking = ap (λ ts. map (field 11 1) (filter (λ table. type_in table == 3) ts)) apart ∙ ap (λ ts. map (field 11 1) (controller_table m.count host ∷ ts)) (no_controller 0 (listed m)) ∙ ap (λ h. h ∷ []) asked;
       }

@@ -5,18 +5,17 @@ use Rattle.std.proofs.Common.{arith}
 use Rattle.std.specs.Option.{unwrap_or}
 use Rattle.std.proofs.lemmas.Bool.{and_parts, cond_both, leb-true}
 use Rattle.store.specs.declared.fault.Protection.{Protection}
-use Rattle.store.specs.Blocks.{Lawful}
+use Rattle.store.specs.Blocks.{Lawful, most_blocks}
 use Rattle.image.specs.Memory.{part}
-use Rattle.image.specs.Images.{block_limit}
 use Rattle.image.specs.Lawful.{length_part, lawful_numbered}
 use Rattle.flat.specs.Lengths.{flat_fits, flat_size}
 use Rattle.flat.specs.Flat.{flat_blocks, marked}
 
 -- An image has no more blocks than the limit.
-few_flat : (n m : ℕ) → flat_size n m ≤ block_limit
+few_flat : (n m : ℕ) → flat_size n m ≤ most_blocks
 few_flat n m =
-    cond_both (flat_fits n m) (Some (n / 256)) None (λ o. unwrap_or o 0 ≤ block_limit)
-    (λ e. leb-true (n / 256) block_limit (and_parts (nat_le (n / 256) block_limit) (m == (n / 256 + 7) / 8) (and_parts (n % 256 == 0) (nat_le (n / 256) block_limit && m == (n / 256 + 7) / 8) e).1).0)
+    cond_both (flat_fits n m) (Some (n / 256)) None (λ o. unwrap_or o 0 ≤ most_blocks)
+    (λ e. leb-true (n / 256) most_blocks (and_parts (nat_le (n / 256) most_blocks) (m == (n / 256 + 7) / 8) (and_parts (n % 256 == 0) (nat_le (n / 256) most_blocks && m == (n / 256 + 7) / 8) e).1).0)
     (λ _. omega arith)
 
 -- Its blocks lie in its memory.

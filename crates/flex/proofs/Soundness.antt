@@ -4,6 +4,7 @@ use Rattle.std.proofs.lemmas.Nat.{mul-le}
 use Rattle.std.proofs.lemmas.Bool.{lt-ltb, le-leb, and_from, and_parts, or_left, or_right, or_cases, ltb-true, leb-true, cases_lt, cases_order}
 use Rattle.std.proofs.lemmas.List.Recursion.{and_at, and_from_places}
 use Rattle.std.specs.List.{list_all}
+use Rattle.store.specs.Blocks.{most_blocks}
 use Rattle.flex.specs.declared.unit.Unit.{Unit as DiscUnit}
 use Rattle.flex.specs.Geometries.{size_of}
 use Rattle.flex.specs.Units.{blank, past, up_to, counted, apart, inside, all_apart, counts, sound, Holds, Counted, Sound}
@@ -71,7 +72,7 @@ module _ (us : List DiscUnit) (end : ℕ) where
   pub record Parts : Type 0 where
     pub some : 1 ≤ length us
     pub few : length us ≤ 15
-    pub reachable : end ≤ 4194304
+    pub reachable : end ≤ most_blocks
     pub counts : list_all counted us ≡ true
     pub once : all_apart us ≡ true
     pub within : list_all (inside end) us ≡ true
@@ -82,7 +83,7 @@ module _ (us : List DiscUnit) (end : ℕ) where
       let q = and_parts (all_apart us) _ p.1 in
       let a = and_parts (leb 1 (length us)) _ p.0 in
       let b = and_parts (leb (length us) 15) _ a.1 in
-      let c = and_parts (leb end 4194304) _ b.1 in
+      let c = and_parts (leb end most_blocks) _ b.1 in
       record { some = leb-true _ _ a.0; few = leb-true _ _ b.0; reachable = leb-true _ _ c.0; counts = c.1; once = q.0; within = q.1 }
 
   parts_to : Parts → sound us end ≡ true

@@ -1,6 +1,7 @@
 -- Units, and which lists of them are a unit map.
 use Rattle.std.specs.Prelude.{◌≡◌, ℕ, ◌+◌, ◌<◌, ◌≤◌, Bool, true, ◌&&◌, ◌||◌, List, [], ◌∷◌, length, get_or, nat_le, nat_lt, slice_index_or}
 use Rattle.std.specs.List.{list_all}
+use Rattle.store.specs.Blocks.{most_blocks}
 use Rattle.flex.specs.Geometries.{size_of}
 use Rattle.flex.specs.declared.unit.Unit.{Unit as DiscUnit}
 
@@ -33,9 +34,9 @@ abbrev pub all_apart : List DiscUnit → Bool
 all_apart [] = true
 all_apart (u ∷ us) = list_all (apart u) us && all_apart us
 
--- The counts of a unit map: 1 to 15 units, a stated end of at most 4,194,304 blocks, and the counts of each unit.
+-- The counts of a unit map: 1 to 15 units, a stated end that a store may reach, and the counts of each unit.
 abbrev pub counts : List DiscUnit → ℕ → Bool
-counts us end = nat_le 1 (length us) && (nat_le (length us) 15 && (nat_le end 4194304 && list_all counted us))
+counts us end = nat_le 1 (length us) && (nat_le (length us) 15 && (nat_le end most_blocks && list_all counted us))
 
 -- The test of a unit map: counts, overlap, end, in this order; where one fails there is no map, and the status is 128/1.
 abbrev pub sound : List DiscUnit → ℕ → Bool
@@ -55,7 +56,7 @@ pub record Counted (u : DiscUnit) : Type 0 where
 pub record Sound (us : List DiscUnit) (end : ℕ) : Type 0 where
   pub some : 1 ≤ length us
   pub few : length us ≤ 15
-  pub reachable : end ≤ 4194304
+  pub reachable : end ≤ most_blocks
   pub counts : (n : ℕ) → n < length us → Counted (get_or us n blank)
   pub once : (n k block : ℕ) → n < length us → k < length us → Holds (slice_index_or us n blank) block → Holds (slice_index_or us k blank) block → n ≡ k
   pub within : (n block : ℕ) → n < length us → Holds (slice_index_or us n blank) block → block < end

@@ -21,7 +21,6 @@ pub enum Status {
     EndOfVolume,
     BadUnitMap,
     StoreTooSmall,
-    BadImage,
     BadHost,
     BadBuffer,
 }
@@ -47,7 +46,6 @@ impl Status {
             Status::EndOfVolume => (8, 5),
             Status::BadUnitMap => (128, 1),
             Status::StoreTooSmall => (128, 2),
-            Status::BadImage => (128, 3),
             Status::BadHost => (128, 4),
             Status::BadBuffer => (128, 5),
         }

@@ -1,5 +1,6 @@
 ghost use Rattle.std.specs.Prelude.{◌≡◌, ◌≤◌, true, length, take};
 ghost use Rattle.std.specs.List.{list_all};
+ghost use Rattle.store.specs.Blocks.{most_blocks};
 ghost use Rattle.flex.specs.Units.{all_apart, counted, inside};
 
 use super::unit::Unit;
@@ -23,7 +24,7 @@ pub struct UnitMap {
     ghost full: { length units ≡ 15 },
     ghost some: { 1 ≤ count },
     ghost few: { count ≤ 15 },
-    ghost reachable: { end ≤ 4194304 },
+    ghost reachable: { end ≤ most_blocks },
     ghost counts: { list_all counted (take count units) ≡ true },
     ghost once: { all_apart (take count units) ≡ true },
     ghost within: { list_all (inside end) (take count units) ≡ true },

@@ -4,9 +4,7 @@ ghost use Rattle.flex.specs.Units.{all_apart, counts, sound};
 
 use super::unit::Unit;
 use super::unit_map::UNITS;
-
-/// The most blocks of a store.
-const BLOCKS: u32 = 4_194_304;
+use store::fault::MOST_BLOCKS;
 
 /// As many units as a map may have, a stated end that a store may reach, and no count of 0.
 fn have_counts(units: &[Unit], end: u32) -> bool
@@ -14,7 +12,7 @@ fn have_counts(units: &[Unit], end: u32) -> bool
 {
     !units.is_empty()
         && units.len() <= UNITS
-        && end <= BLOCKS
+        && end <= MOST_BLOCKS
         && units.iter().all(|unit| unit.is_counted())
 }
 

@@ -20,7 +20,6 @@ fn each_status_has_its_group_and_code(rt: HostRuntime) -> Result<(), Fail> {
         (Status::EndOfVolume, 8, 5, "8/5"),
         (Status::BadUnitMap, 128, 1, "128/1"),
         (Status::StoreTooSmall, 128, 2, "128/2"),
-        (Status::BadImage, 128, 3, "128/3"),
         (Status::BadHost, 128, 4, "128/4"),
         (Status::BadBuffer, 128, 5, "128/5"),
     ];

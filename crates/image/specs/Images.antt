@@ -7,10 +7,6 @@ use Rattle.store.specs.declared.fault.Protection.{Protection}
 use Rattle.store.specs.Blocks.{Block, fault, sound, damaged}
 use Rattle.image.specs.declared.refusal.Refusal.{Refusal}
 
--- An image has at most 4,194,304 blocks.
-abbrev pub block_limit : ℕ
-block_limit = 4194304
-
 -- One block of an image: damaged if its mark says so, else sound with its bytes; the protection is the image's.
 abbrev pub block_of : Bool → List ℕ → Protection → Block
 block_of mark bytes protection = record { contents = cond mark damaged (sound bytes); protection = protection }

@@ -8,9 +8,9 @@ use Rattle.std.proofs.lemmas.List.{length-take, length-drop}
 use Rattle.std.proofs.lemmas.Option.{slice_get-get_or, slice_get_past}
 use Rattle.std.proofs.lemmas.Bool.{cases_lt}
 use Rattle.store.specs.declared.fault.Protection.{Protection}
-use Rattle.store.specs.Blocks.{Block, Lawful, Whole, WholeOf}
+use Rattle.store.specs.Blocks.{Block, Lawful, Whole, WholeOf, most_blocks}
 use Rattle.image.specs.Memory.{part}
-use Rattle.image.specs.Images.{block_of, blocks_by, block_limit}
+use Rattle.image.specs.Images.{block_of, blocks_by}
 
 -- There are as many blocks as were to be made.
 pub length_numbered : (n : ℕ) (f : ℕ → Block) → length (blocks_by n f) ≡ n
@@ -36,7 +36,7 @@ whole_block false bytes p e = e
 
 -- Blocks with 256 bytes each, marked or not.
 pub lawful_numbered :
-    (n : ℕ) (marks : ℕ → Bool) (bytes : ℕ → List ℕ) (p : Protection) → n ≤ block_limit → ((i : ℕ) → i < n → length (bytes i) ≡ 256)
+    (n : ℕ) (marks : ℕ → Bool) (bytes : ℕ → List ℕ) (p : Protection) → n ≤ most_blocks → ((i : ℕ) → i < n → length (bytes i) ≡ 256)
     → Lawful (blocks_by n (λ i. block_of (marks i) (bytes i) p)) (blocks_by n (λ i. block_of (marks i) (bytes i) p)) (Unit {0})
 lawful_numbered n marks bytes p few whole = record { sized = record { few = rw (length_numbered n f) few; whole = at }; holds = λ _. refl }
   where

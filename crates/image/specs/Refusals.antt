@@ -1,22 +1,14 @@
 -- Why lent memory is refused as an image, and the status that tells it.
-use Rattle.std.specs.Prelude.{ℕ, List, codes}
+use Rattle.std.specs.Prelude.{ℕ, List, ◌++◌, codes, decimal}
 use Rattle.image.specs.declared.refusal.Refusal.{Refusal}
 use Rattle.image.specs.declared.refusal.Refusal.TheVariants as refusals
 
--- The group of a refusal's status, 128: every refusal is 128/3.
-abbrev pub refusal_group : Refusal → ℕ
-refusal_group refusals.Records = 128
-refusal_group refusals.Lengths = 128
-refusal_group (refusals.Spare track) = 128
+-- A refusal's status, as its group and the code within it: every refusal is 128/3.
+abbrev pub refusal_numbers : Refusal → ℕ × ℕ
+refusal_numbers refusals.Records = (128, 3)
+refusal_numbers refusals.Lengths = (128, 3)
+refusal_numbers (refusals.Spare track) = (128, 3)
 
--- The code of a refusal's status, 3.
-abbrev pub refusal_code : Refusal → ℕ
-refusal_code refusals.Records = 3
-refusal_code refusals.Lengths = 3
-refusal_code (refusals.Spare track) = 3
-
--- It is printed with a stroke between the two.
+-- It is written group/code.
 abbrev pub refusal_text : Refusal → List ℕ
-refusal_text refusals.Records = codes "128/3"
-refusal_text refusals.Lengths = codes "128/3"
-refusal_text (refusals.Spare track) = codes "128/3"
+refusal_text r = decimal (refusal_numbers r).0 ++ (codes "/" ++ decimal (refusal_numbers r).1)

@@ -1,16 +1,14 @@
 ghost use Rattle.std.specs.Prelude.{◌≡◌, nat_le};
-ghost use Rattle.image.specs.Images.{asked, block_limit};
+ghost use Rattle.store.specs.Blocks.{most_blocks};
+ghost use Rattle.image.specs.Images.{asked};
 
-use store::fault::{BLOCK_BYTES, FaultKind, StoreFault};
-
-/// The most blocks that an image has.
-const BLOCK_LIMIT: usize = 4_194_304;
+use store::fault::{BLOCK_BYTES, FaultKind, MOST_BLOCKS, StoreFault};
 
 /// Whether an image may have so many blocks.
 pub fn may_have(blocks: usize) -> bool
-    ensures { result ≡ nat_le blocks block_limit }
+    ensures { result ≡ nat_le blocks most_blocks }
 {
-    blocks <= BLOCK_LIMIT
+    blocks <= MOST_BLOCKS as usize
 }
 
 /// What a call that moves a block's bytes asks first: a buffer of one block, then a block that is there.

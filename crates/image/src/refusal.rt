@@ -1,5 +1,5 @@
 ghost use Rattle.std.specs.Prelude.{◌≡◌, Some};
-ghost use Rattle.image.specs.Refusals.{refusal_group, refusal_code, refusal_text};
+ghost use Rattle.image.specs.Refusals.{refusal_numbers, refusal_text};
 
 use std::fmt;
 
@@ -15,31 +15,36 @@ pub enum Refusal {
 }
 
 impl Refusal {
-    /// The group of the refusal's status.
-    pub fn group(&self) -> u8
-        ensures { result ≡ refusal_group self.now }
+    /// The group of the refusal's status and the code within it.
+    fn numbers(&self) -> (u8, u8)
+        ensures { result ≡ refusal_numbers self.now }
     {
         match self {
-            Refusal::Records | Refusal::Lengths | Refusal::Spare { .. } => 128,
+            Refusal::Records | Refusal::Lengths | Refusal::Spare { .. } => (128, 3),
         }
+    }
+
+    /// The group of the refusal's status.
+    pub fn group(&self) -> u8
+        ensures { result ≡ (refusal_numbers self.now).0 }
+    {
+        self.numbers().0
     }
 
     /// The code of the refusal's status within its group.
     pub fn code(&self) -> u8
-        ensures { result ≡ refusal_code self.now }
+        ensures { result ≡ (refusal_numbers self.now).1 }
     {
-        match self {
-            Refusal::Records | Refusal::Lengths | Refusal::Spare { .. } => 3,
-        }
+        self.numbers().1
     }
 }
 
+/// A refusal is written as its status, group/code.
 impl fmt::Display for Refusal {
     ghost output = { λ r. Some (refusal_text r) };
 
     fn fmt<W: fmt::Write>(&self, f: &mut fmt::Formatter<W>) -> fmt::Result {
-        match self {
-            Refusal::Records | Refusal::Lengths | Refusal::Spare { .. } => f.write_str("128/3"),
-        }
+        let (group, code) = self.numbers();
+        write!(f, "{group}/{code}")
     }
 }

@@ -1,15 +1,15 @@
 -- Which length of memory fits its tracks, and how many blocks it has.
 use Rattle.std.specs.Prelude.{ℕ, ◌-◌, ◌*◌, Bool, cond, ◌&&◌, Some, None, Option, ◌==◌, nat_le}
 use Rattle.std.specs.Option.{unwrap_or}
-use Rattle.image.specs.Images.{block_limit}
+use Rattle.store.specs.Blocks.{most_blocks}
 
 -- A track has 2 to 256 records.
 abbrev pub records_fit : ℕ → Bool
 records_fit records = nat_le 2 records && nat_le records 256
 
--- Lengths fit when the memory is 276 bytes for each record of each track, and the blocks, all records but one a track, are at most 4,194,304.
+-- Lengths fit when the memory is 276 bytes for each record of each track, and the blocks, all records but one a track, are no more than a store may have.
 abbrev pub raw_fits : ℕ → ℕ → ℕ → Bool
-raw_fits bytes tracks records = records_fit records && (bytes == 276 * (records * tracks) && nat_le (tracks * (records - 1)) block_limit)
+raw_fits bytes tracks records = records_fit records && (bytes == 276 * (records * tracks) && nat_le (tracks * (records - 1)) most_blocks)
 
 -- How many blocks memory of such a length has in so many tracks, if they fit.
 abbrev pub raw_count : ℕ → ℕ → ℕ → Option ℕ

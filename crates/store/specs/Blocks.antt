@@ -141,9 +141,13 @@ abbrev pub Whole : Option Block → Type 0
 Whole None = Unit {0}
 Whole (Some k) = WholeOf k.contents
 
--- What every store owes of its meaning: at most 4,194,304 blocks, 256 bytes in each sound one.
+-- The most blocks that a store has.
+abbrev pub most_blocks : ℕ
+most_blocks = 4194304
+
+-- What every store owes of its meaning: no more blocks than that, and 256 bytes in each sound one.
 pub record Sized (bs : List Block) : Type 0 where
-  pub few : length bs ≤ 4194304
+  pub few : length bs ≤ most_blocks
   pub whole : (i : ℕ) → Whole (slice_get bs i)
 
 -- And of being settled: then what the memory at the bottom holds is what the store means.
