@@ -73,7 +73,8 @@ turn_place turn = turn % 8
 abbrev pub given_up : List Slot → ℕ → Option ℕ
 given_up slots turn = (slice_index_or slots (turn_place turn) no_slot).block
 
--- A block is given up only where the block to keep is not kept yet and no slot is vacant.
+-- A block is given up only where the block to keep is not kept yet and no slot is vacant. Every slot that keeps a block counts as one of the
+-- eight, whether or not that block is open below.
 abbrev pub is_ninth : List Slot → ℕ → Bool
 is_ninth slots b = not (is_some (place slots (Some b))) && not (is_some (place slots None))
 
@@ -155,11 +156,17 @@ after_read h b buffer = cond (was_read h b buffer) (keeping h b (read_buffer (me
 abbrev pub after_write : Held → ℕ → List ℕ → Held
 after_write h b bytes = cond (is_ok (write_answer (means h) b bytes)) (keeping h b bytes) h
 
+-- In what a cache means a slot counts only while its block is open below. This is that every slot that keeps a block counts: then the eight slots
+-- that a ninth block finds full keep eight open blocks.
+abbrev pub AllCount : Held → Type 0
+AllCount h = (i : ℕ) (y : List ℕ) → kept h.slots i ≡ Some y → is_open_at (slice_get h.below i) ≡ true
+
 -- What that comes to, for whoever asks what is kept and what has been written below. Either nothing is given up: the store below and all other kept blocks stay.
 abbrev pub Stays : Held → Held → ℕ → Type 0
 Stays before after b = (after.below ≡ before.below) × ((i : ℕ) → (i ≢ b) → kept after.slots i ≡ kept before.slots i)
 
--- Or block b is a ninth, and one kept block gives way: it is written below and kept no more, and nothing else is changed.
+-- Or block b is a ninth, since it is not kept and every slot keeps a block; and one kept block gives way: it is written below and kept no more,
+-- and nothing else is changed.
 pub record GivesWay (before after : Held) (b j : ℕ) (bytes : List ℕ) : Type 0 where
   pub ninth : (kept before.slots b ≡ None) × (place before.slots None ≡ None)
   pub was_kept : kept before.slots j ≡ Some bytes
@@ -167,10 +174,11 @@ pub record GivesWay (before after : Held) (b j : ℕ) (bytes : List ℕ) : Type 
   pub below : after.below ≡ written before.below j bytes
   pub others : (i : ℕ) → (i ≢ b) → (i ≢ j) → kept after.slots i ≡ kept before.slots i
 
--- And block b is kept with its bytes.
+-- And block b is kept with its bytes. Where it is open below, every slot that keeps a block counts afterwards, if every one did before.
 pub record KeptLate (before after : Held) (b : ℕ) (bytes : List ℕ) : Type 0 where
   pub own : kept after.slots b ≡ Some bytes
   pub rest : Stays before after b ⊎ ((j : ℕ) × ((y : List ℕ) × GivesWay before after b j y))
+  pub counts : is_open_at (slice_get before.below b) ≡ true → AllCount before → AllCount after
 
 -- Settling writes every slot's block below, one after the other.
 abbrev pub put_slot : List Block → Option ℕ → List ℕ → List Block

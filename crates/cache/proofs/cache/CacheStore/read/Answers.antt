@@ -50,7 +50,7 @@ returns-in-Some g c =
       buffer = got.1;
       same = refl;
       held = sym (keeping_again h b p own) ∙ read_keeps h b buffer free (Ok tt) bytes got.0 got.1;
-      late = λ _ _. record { own = kept_here; rest = inl (refl, λ i ne. refl) };
+      late = λ _ _. record { own = kept_here; rest = inl (refl, λ i ne. refl); counts = λ _ all. all };
       base = refl;
     }
 
