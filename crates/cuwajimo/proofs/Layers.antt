@@ -1,7 +1,8 @@
 -- A window on every block and a write guard on none change nothing.
 use Rattle.std.proofs.Common.{◌≡◌, ℕ, suc, ◌≤◌, false, List, [], ◌∷◌, length, Option, unwrap_or, refl, ap, ◌∙◌, arith}
 use Rattle.std.proofs.lemmas.List.{take_all}
-use Rattle.store.specs.Blocks.{Block, most_blocks}
+use Rattle.store.specs.Blocks.{Block}
+use Rattle.store.specs.Counts.{most_blocks}
 use Rattle.store.specs.Each.{each_from}
 use Rattle.layer.specs.declared.run.Run.{Run}
 use Rattle.layer.specs.Runs.{in_run, no_blocks, all_blocks}

@@ -1,7 +1,8 @@
 -- The memory of an image that the program makes by itself.
 use Rattle.std.specs.Prelude.{◌≡◌, ℕ, ◌+◌, ◌-◌, ◌*◌, ◌/◌, ◌^◌, min, cond, List, [], ◌∷◌, length, replicate, vec_items, Option, nat_le}
 use Rattle.store.specs.declared.fault.Protection.{Protection}
-use Rattle.store.specs.Blocks.{Block, most_blocks}
+use Rattle.store.specs.Blocks.{Block}
+use Rattle.store.specs.Counts.{most_blocks}
 use Rattle.image.specs.declared.refusal.Refusal.{Refusal}
 use Rattle.flat.specs.Flat.{flat_count, flat_offered, flat_refusal}
 use Rattle.raw.specs.Raw.{raw_count, raw_offered, raw_refusal}

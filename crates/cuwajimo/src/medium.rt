@@ -1,5 +1,5 @@
 ghost use Rattle.std.specs.Prelude.{◌≡◌, IfOk, IsOkUnless, if◌then◌else◌, Some, None, nat_le};
-ghost use Rattle.store.specs.Blocks.{most_blocks};
+ghost use Rattle.store.specs.Counts.{most_blocks};
 ghost use Rattle.cuwajimo.specs.Media.{Loaded, ZeroFlat, capped_bytes, ZeroRaw, medium_count};
 ghost use Rattle.cuwajimo.specs.declared.trouble.Trouble.TheVariants.{Memory as NoMemory};
 

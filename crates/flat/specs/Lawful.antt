@@ -5,7 +5,8 @@ use Rattle.std.proofs.Common.{arith}
 use Rattle.std.specs.Option.{unwrap_or}
 use Rattle.std.proofs.lemmas.Bool.{and_parts, cond_both, leb-true}
 use Rattle.store.specs.declared.fault.Protection.{Protection}
-use Rattle.store.specs.Blocks.{Lawful, most_blocks}
+use Rattle.store.specs.Blocks.{Lawful}
+use Rattle.store.specs.Counts.{most_blocks}
 use Rattle.image.specs.Memory.{part}
 use Rattle.image.specs.Lawful.{length_part, lawful_numbered}
 use Rattle.flat.specs.Lengths.{flat_fits, flat_size}

@@ -1,7 +1,7 @@
 -- Which lengths of memory and map fit one another, and how many blocks they have.
 use Rattle.std.specs.Prelude.{ℕ, ◌+◌, ◌/◌, ◌%◌, Bool, cond, ◌&&◌, Some, None, Option, ◌==◌, nat_le}
 use Rattle.std.specs.Option.{unwrap_or}
-use Rattle.store.specs.Blocks.{most_blocks}
+use Rattle.store.specs.Counts.{most_blocks}
 
 -- Lengths fit when the memory is whole blocks, at most as many as a store may have, and the map has a bit for each, rounded up to a byte.
 abbrev pub flat_fits : ℕ → ℕ → Bool

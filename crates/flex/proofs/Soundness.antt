@@ -4,7 +4,7 @@ use Rattle.std.proofs.lemmas.Nat.{mul-le}
 use Rattle.std.proofs.lemmas.Bool.{lt-ltb, le-leb, and_from, and_parts, or_left, or_right, or_cases, ltb-true, leb-true, cases_lt, cases_order}
 use Rattle.std.proofs.lemmas.List.Recursion.{and_at, and_from_places}
 use Rattle.std.specs.List.{list_all}
-use Rattle.store.specs.Blocks.{most_blocks}
+use Rattle.store.specs.Counts.{most_blocks}
 use Rattle.flex.specs.declared.unit.Unit.{Unit as DiscUnit}
 use Rattle.flex.specs.Geometries.{size_of}
 use Rattle.flex.specs.Units.{blank, past, up_to, counted, apart, inside, all_apart, counts, sound, Holds, Counted, Sound}

@@ -1,7 +1,7 @@
 -- Units, and which lists of them are a unit map.
 use Rattle.std.specs.Prelude.{◌≡◌, ℕ, ◌+◌, ◌<◌, ◌≤◌, Bool, true, ◌&&◌, ◌||◌, List, [], ◌∷◌, length, get_or, nat_le, nat_lt, slice_index_or}
 use Rattle.std.specs.List.{list_all}
-use Rattle.store.specs.Blocks.{most_blocks}
+use Rattle.store.specs.Counts.{most_blocks}
 use Rattle.flex.specs.Geometries.{size_of}
 use Rattle.flex.specs.declared.unit.Unit.{Unit as DiscUnit}
 

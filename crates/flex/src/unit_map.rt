@@ -1,6 +1,6 @@
 ghost use Rattle.std.specs.Prelude.{◌≡◌, ◌≤◌, true, length, take};
 ghost use Rattle.std.specs.List.{list_all};
-ghost use Rattle.store.specs.Blocks.{most_blocks};
+ghost use Rattle.store.specs.Counts.{most_blocks};
 ghost use Rattle.flex.specs.Units.{all_apart, counted, inside};
 
 use super::unit::Unit;

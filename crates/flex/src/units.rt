@@ -4,7 +4,7 @@ ghost use Rattle.flex.specs.Units.{all_apart, counts, sound};
 
 use super::unit::Unit;
 use super::unit_map::UNITS;
-use store::fault::MOST_BLOCKS;
+use store::count::MOST_BLOCKS;
 
 /// As many units as a map may have, a stated end that a store may reach, and no count of 0.
 fn have_counts(units: &[Unit], end: u32) -> bool

@@ -8,7 +8,8 @@ use Rattle.std.proofs.lemmas.List.{length-take, length-drop}
 use Rattle.std.proofs.lemmas.Option.{slice_get-get_or, slice_get_past}
 use Rattle.std.proofs.lemmas.Bool.{cases_lt}
 use Rattle.store.specs.declared.fault.Protection.{Protection}
-use Rattle.store.specs.Blocks.{Block, Lawful, Whole, WholeOf, most_blocks}
+use Rattle.store.specs.Blocks.{Block, Lawful, Whole, WholeOf}
+use Rattle.store.specs.Counts.{most_blocks}
 use Rattle.image.specs.Memory.{part}
 use Rattle.image.specs.Images.{block_of, blocks_by}
 

@@ -1,8 +1,9 @@
 ghost use Rattle.std.specs.Prelude.{◌≡◌, nat_le};
-ghost use Rattle.store.specs.Blocks.{most_blocks};
+ghost use Rattle.store.specs.Counts.{most_blocks};
 ghost use Rattle.image.specs.Images.{asked};
 
-use store::fault::{BLOCK_BYTES, FaultKind, MOST_BLOCKS, StoreFault};
+use store::count::MOST_BLOCKS;
+use store::fault::{BLOCK_BYTES, FaultKind, StoreFault};
 
 /// Whether an image may have so many blocks.
 pub fn may_have(blocks: usize) -> bool

@@ -6,7 +6,8 @@ use Rattle.std.specs.Option.{unwrap_or}
 use Rattle.std.proofs.lemmas.Nat.{div_below, mod_below, mul-add-lt}
 use Rattle.std.proofs.lemmas.Bool.{and_parts, cond_both, eqb-true, leb-true}
 use Rattle.store.specs.declared.fault.Protection.{Protection}
-use Rattle.store.specs.Blocks.{Lawful, most_blocks}
+use Rattle.store.specs.Blocks.{Lawful}
+use Rattle.store.specs.Counts.{most_blocks}
 use Rattle.image.specs.Memory.{part}
 use Rattle.image.specs.Lawful.{length_part, lawful_numbered}
 use Rattle.raw.specs.Lengths.{records_fit, raw_fits, raw_size}

@@ -1,7 +1,7 @@
 -- Which length of memory fits its tracks, and how many blocks it has.
 use Rattle.std.specs.Prelude.{ℕ, ◌-◌, ◌*◌, Bool, cond, ◌&&◌, Some, None, Option, ◌==◌, nat_le}
 use Rattle.std.specs.Option.{unwrap_or}
-use Rattle.store.specs.Blocks.{most_blocks}
+use Rattle.store.specs.Counts.{most_blocks}
 
 -- A track has 2 to 256 records.
 abbrev pub records_fit : ℕ → Bool

@@ -6,6 +6,7 @@ use Rattle.store.specs.declared.fault.FaultKind.TheVariants as kinds
 use Rattle.store.specs.declared.fault.StoreFault.{StoreFault}
 use Rattle.store.specs.declared.fault.Protection.{Protection}
 use Rattle.store.specs.declared.fault.Protection.TheVariants as protections
+use Rattle.store.specs.Counts.{most_blocks}
 
 -- A block is sound, with its bytes, or damaged.
 pub data Contents : Type 0 where
@@ -140,10 +141,6 @@ WholeOf damaged = Unit {0}
 abbrev pub Whole : Option Block → Type 0
 Whole None = Unit {0}
 Whole (Some k) = WholeOf k.contents
-
--- The most blocks that a store has.
-abbrev pub most_blocks : ℕ
-most_blocks = 4194304
 
 -- What every store owes of its meaning: no more blocks than that, and 256 bytes in each sound one.
 pub record Sized (bs : List Block) : Type 0 where

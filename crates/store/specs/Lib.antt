@@ -1,3 +1,4 @@
+pub mod Counts
 pub mod Faults
 pub mod Blocks
 pub mod Each

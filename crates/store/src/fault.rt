@@ -6,8 +6,6 @@ use std::fmt;
 
 /// How many bytes a block has.
 pub const BLOCK_BYTES: usize = 256;
-/// The most blocks that a store has.
-pub const MOST_BLOCKS: u32 = 4_194_304;
 
 /// Whether a block may be written.
 #[derive(Clone, Copy, PartialEq, Eq, Debug)]

@@ -1,5 +1,6 @@
 #![tactic(auto)]
 
 pub mod calls;
+pub mod count;
 pub mod fault;
 pub mod store;

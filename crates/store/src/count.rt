@@ -1,0 +1,2 @@
+/// The most blocks that a store has.
+pub const MOST_BLOCKS: u32 = 4_194_304;
