@@ -23,7 +23,7 @@ abbrev pub installed : ℕ → ℕ
 installed n = 2 ^ n - 1
 
 -- The controller's table is of type 3: the installed units, the transfer rate in thousands of bytes a second, 5000; the controller's type, 2, which
--- is one of many ports; the number of the host that asks; the count of ports, 8; and a byte that says nothing.
+-- is one of many ports; the number of the host that asks; the count of ports, 8; and a reserved byte, 0.
 abbrev pub controller_table : ℕ → ℕ → List ℕ
 controller_table n host = heading 14 3 8 0 0 ++ (bytes_of 2 (installed n) ++ (bytes_of 2 5000 ++ 2 ∷ host ∷ 8 ∷ 0 ∷ []))
 
@@ -36,7 +36,8 @@ unit_header number =
     number ∷ 0 ∷ 0x07 ∷ 0x93 ∷ 0x71 ∷
     (bytes_of 2 256 ++ 128 ∷ 0 ∷ (bytes_of 2 179 ++ (bytes_of 2 1800 ++ (bytes_of 2 80 ++ (bytes_of 2 84 ++ 1 ∷ [])))))
 
--- Its one record is of its volume: the largest cylinder, head, sector and single address; the interleave factor, 1; and a byte that says nothing.
+-- Its one record is of its volume: the largest cylinder, head, sector and single address; the interleave factor, 1; and the volume's number, 0, since a
+-- unit has one volume.
 abbrev pub volume : Geometry → List ℕ
 volume g =
     bytes_of 3 (g.cylinders - 1) ++ ((g.heads - 1) ∷ (bytes_of 2 (g.sectors - 1) ++ (bytes_of 6 (size_of g - 1) ++ 1 ∷ 0 ∷ [])))

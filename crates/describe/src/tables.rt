@@ -41,7 +41,7 @@ pub(super) fn unit_table(number: u8, geometry: Geometry) -> [u8; UNIT_BYTES]
         number, 0x00, 0x07, 0x93, 0x71, 0x01, 0x00, 0x80, 0x00, //
         // its times and rates: 179, 1800, 80 and 84
         0x00, 0xb3, 0x07, 0x08, 0x00, 0x50, 0x00, 0x54, 0x01, //
-        // the largest cylinder, head, sector and address
+        // the largest cylinder, head, sector and address, the interleave factor, and the number of the volume
         c1, c2, c3, head, s1, s2, a1, a2, a3, a4, a5, a6, 0x01, 0x00,
     ]
 }
