@@ -22,3 +22,5 @@ pub mod Sample
 pub mod Small
 pub mod NoHost
 pub mod Describing
+pub mod Mail
+pub mod Faults

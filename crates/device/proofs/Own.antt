@@ -47,10 +47,10 @@ no_wait s h i d = go (mail_of s h).wait refl
     go None e = refl
     go (Some w) e = clash (another (stands w) h s.hosts) (i.waits h w e) (free_way s h i d w)
 
-mail_own : (s : State) (c : Call) → by c < length s.mail → mail_of (next s c) (by c) ≡ settled (next s c).hosts (by c) (posted_by s c)
+pub mail_own : (s : State) (c : Call) → by c < length s.mail → mail_of (next s c) (by c) ≡ settled (next s c).hosts (by c) (posted_by s c)
 mail_own s c l = mail_next s c (by c) ∙ ap (settled (next s c).hosts (by c)) (get_or-set_same s.mail (by c) (posted_by s c) silent l)
 
-mail_other : (s : State) (c : Call) (h : ℕ) → h ≢ by c → mail_of (next s c) h ≡ settled (next s c).hosts h (mail_of s h)
+pub mail_other : (s : State) (c : Call) (h : ℕ) → h ≢ by c → mail_of (next s c) h ≡ settled (next s c).hosts h (mail_of s h)
 mail_other s c h n = mail_next s c h ∙ ap (settled (next s c).hosts h) (get_or-set_other s.mail (by c) h (posted_by s c) silent n)
 
 -- What it asks for in a call is its own, if it keeps to its units there.

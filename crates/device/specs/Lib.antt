@@ -4,6 +4,8 @@ pub mod Answers
 pub mod Device
 pub mod Isolation
 pub mod Laws
+pub mod Mail
+pub mod Faults
 pub mod Refusals
 pub mod Transfers
 pub mod Sample

@@ -3,8 +3,10 @@ ghost use Rattle.device.specs.Answers.{command_answer, segment_answer, report_an
 ghost use Rattle.device.specs.Calls.{command, segment, report, cancel, clear, notice, fault};
 ghost use Rattle.device.specs.Device.{state, after, parameters_of, locks_of, power_on as at_power_on};
 ghost use Rattle.device.specs.Describing.{DescribingFrom};
+ghost use Rattle.device.specs.Faults.{FaultsFrom};
 ghost use Rattle.device.specs.Isolation.{IsolationFrom};
 ghost use Rattle.device.specs.Laws.{ApartnessFrom, ExclusionFrom, WaitsFrom};
+ghost use Rattle.device.specs.Mail.{MailFrom};
 ghost use Rattle.device.specs.Refusals.{RefusalsFrom};
 ghost use Rattle.device.specs.Sample.{Sampled};
 ghost use Rattle.device.specs.Small.{Table};
@@ -200,6 +202,8 @@ pub fn power_on<S: Store>(number: u32, map: UnitMap, store: S) -> Device<S>
     ensures apartness { ApartnessFrom (state S.blocks result) }
     ensures exclusion { ExclusionFrom (state S.blocks result) }
     ensures waits { WaitsFrom (state S.blocks result) }
+    ensures mail { MailFrom (state S.blocks result) }
+    ensures faults { FaultsFrom (state S.blocks result) }
     ensures refusals { RefusalsFrom (state S.blocks result) }
     ensures moving { MovingFrom (state S.blocks result) }
     ensures transfers { TransfersFrom (state S.blocks result) }
