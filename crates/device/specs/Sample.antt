@@ -49,9 +49,9 @@ send h byte = segment (record { device = 5; host = h }) (replicate 256 byte)
 abbrev pub read_unit : ℕ → ℕ → Call
 read_unit h u = command h ((0x20 + u) ∷ 0x00 ∷ [])
 
--- A report of host h, on a report ticket of device 5, with a buffer of 13 zeros.
+-- A report of host h, on a report ticket of device 5, with a buffer of 16 bytes, each of them AAH.
 abbrev pub ask_report : ℕ → Call
-ask_report h = report (record { device = 5; host = h }) (replicate 13 0)
+ask_report h = report (record { device = 5; host = h }) (replicate 16 0xaa)
 
 -- Host 0 has locked unit 0, of device 5 over eight blocks of zeros; it and host 1 have cleared, and its report is taken.
 unfoldable pub locked_state : State

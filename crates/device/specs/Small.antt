@@ -1,6 +1,8 @@
--- A small device, and a table of messages with what they come to: device 5 over a flat open store of 64 sound blocks, with all hosts cleared.
-use Rattle.std.specs.Prelude.{◌≡◌, ℕ, true, List, [], ◌∷◌, length, replicate, refl}
+-- A small device, and a table of messages with what they come to: device 5 over a flat open store of 64 sound blocks, block b filled with the byte b,
+-- with all hosts cleared.
+use Rattle.std.specs.Prelude.{◌≡◌, ℕ, zero, suc, true, List, [], ◌∷◌, ◌++◌, replicate, refl}
 use Rattle.std.proofs.Common.{lit≤}
+use Rattle.store.specs.Blocks.{Block}
 use Rattle.flex.specs.declared.status.Status.{Status}
 use Rattle.flex.specs.declared.status.Status.TheVariants as statuses
 use Rattle.flex.specs.declared.unit.Unit.{Unit as DiscUnit}
@@ -36,29 +38,33 @@ small_map = record {
   within = refl;
 }
 
+-- So many open sound blocks, each filled with one byte: the first with this byte, each further one with the byte above.
+abbrev pub blocks_from : ℕ → ℕ → List Block
+blocks_from byte zero = []
+blocks_from byte (suc n) = filled_with byte ∷ blocks_from (suc byte) n
+
 -- Every row starts here afresh.
 unfoldable pub small_state : State
 small_state =
-    run (power_on 5 small_map (replicate 64 (filled_with 0))) (clear 0 ∷ clear 1 ∷ clear 2 ∷ clear 3 ∷ clear 4 ∷ clear 5 ∷ clear 6 ∷ clear 7 ∷ [])
+    run (power_on 5 small_map (blocks_from 0 64)) (clear 0 ∷ clear 1 ∷ clear 2 ∷ clear 3 ∷ clear 4 ∷ clear 5 ∷ clear 6 ∷ clear 7 ∷ [])
 
--- What is seen of an answer: of a ticket its phase, of a segment's buffer its length.
+-- What is seen of an answer: of a ticket its phase, and of a buffer every byte.
 pub data Seen : Type 0 where
   accepts : Phase → Seen
-  moves : Phase → ℕ → Seen
+  moves : Phase → List ℕ → Seen
   reports : List ℕ → Seen
   refuses : Status → Seen
+  hands_back : Status → List ℕ → Seen
   answers_else : Seen
 
--- An answer as it is seen: a refusal by its status alone; a call that is done, a notice and a fault are not told apart.
+-- An answer as it is seen: a refusal by its status, and by the buffer if the call had one; a call that is done, a notice and a fault are not told apart.
 abbrev pub seen : Answer → Seen
 seen (accepted k) = accepts (phase_on k)
-seen (moved k buffer) = moves (phase_on k) (length buffer)
+seen (moved k buffer) = moves (phase_on k) buffer
 seen (reported buffer) = reports buffer
-seen done = answers_else
-seen (noticed n) = answers_else
-seen (faulted f) = answers_else
 seen (refusal s) = refuses s
-seen (returned s k buffer) = refuses s
+seen (returned s k buffer) = hands_back s buffer
+seen other = answers_else
 
 -- What is seen of each answer of a list, in order.
 abbrev pub all_seen : List Answer → List Seen
@@ -72,25 +78,47 @@ pub record Row : Type 0 where
   pub host : ℕ
   pub address : ℕ
 
--- Host 0 calls for so many bytes.
-abbrev pub move : ℕ → Call
-move size = segment (record { device = 5; host = 0 }) (replicate size 0)
+-- Host 0 moves a segment, with a buffer of so many bytes, each of them this byte.
+abbrev pub move : ℕ → ℕ → Call
+move size byte = segment (record { device = 5; host = 0 }) (replicate size byte)
+
+-- The bytes of so many blocks of the small device, from block b on.
+abbrev pub bytes_from : ℕ → ℕ → List ℕ
+bytes_from b zero = []
+bytes_from b (suc n) = replicate 256 b ++ bytes_from (suc b) n
+
+-- The buffer of a report: the report's 13 bytes, and after them what it held.
+abbrev pub told : List ℕ → Seen
+told bytes = reports (bytes ++ replicate 3 0xaa)
 
 -- A report without a status: all is well.
 abbrev pub fine : Seen
-fine = reports (replicate 13 0)
+fine = told (replicate 13 0)
 
 -- A report of 8/5.
 abbrev pub end_of_volume : Seen
-end_of_volume = reports (1 ∷ 8 ∷ 5 ∷ replicate 10 0)
+end_of_volume = told (1 ∷ 8 ∷ 5 ∷ replicate 10 0)
 
--- The eleven rows; what each shows stands above it.
+-- Unit 0, vector 2, 1, 3.
+abbrev pub to_28 : Call
+to_28 = command 0 (0x20 ∷ 0x11 ∷ 0 ∷ 0 ∷ 2 ∷ 1 ∷ 0 ∷ 3 ∷ [])
+
+-- Host 0's message for the last block of unit 0, block 39, with this command.
+abbrev pub last_block : ℕ → Call
+last_block code = command 0 (0x20 ∷ 0x10 ∷ 0 ∷ 0 ∷ 0 ∷ 0 ∷ 0 ∷ 0x27 ∷ 0x18 ∷ 0 ∷ 0 ∷ 1 ∷ 0 ∷ code ∷ [])
+
+-- The twelve rows; what each shows stands above it.
 unfoldable pub table : List Row
 table =
     -- unit 0, vector 2, 1, 3: address 28
-    record { calls = command 0 (0x20 ∷ 0x11 ∷ 0 ∷ 0 ∷ 2 ∷ 1 ∷ 0 ∷ 3 ∷ []) ∷ ask_report 0 ∷ []; sees = accepts phases.Report ∷ fine ∷ []; host = 0; address = 28 }
-    -- unit 0, vector 0, 2, 0: 1/3, and address 0
-    ∷ record { calls = command 0 (0x20 ∷ 0x11 ∷ 0 ∷ 0 ∷ 0 ∷ 2 ∷ 0 ∷ 0 ∷ []) ∷ []; sees = refuses statuses.AddressBounds ∷ []; host = 0; address = 0 }
+    record { calls = to_28 ∷ ask_report 0 ∷ []; sees = accepts phases.Report ∷ fine ∷ []; host = 0; address = 28 }
+    -- unit 0, vector 0, 2, 0: 1/3, and the address, which was 28, is 0
+    ∷ record {
+      calls = to_28 ∷ ask_report 0 ∷ command 0 (0x20 ∷ 0x11 ∷ 0 ∷ 0 ∷ 0 ∷ 2 ∷ 0 ∷ 0 ∷ []) ∷ [];
+      sees = accepts phases.Report ∷ fine ∷ refuses statuses.AddressBounds ∷ [];
+      host = 0;
+      address = 0;
+    }
     -- an empty message: 2/0
     ∷ record { calls = command 0 [] ∷ []; sees = refuses statuses.MessageLength ∷ []; host = 0; address = 0 }
     -- No Op alone: straight to a report of 0
@@ -108,17 +136,36 @@ table =
       host = 0;
       address = 0;
     }
-    -- the last block alone: one segment, and address 40
+    -- the last block alone: one segment, with that block's bytes, and address 40
     ∷ record {
-      calls = command 0 (0x20 ∷ 0x10 ∷ 0 ∷ 0 ∷ 0 ∷ 0 ∷ 0 ∷ 0x27 ∷ 0x18 ∷ 0 ∷ 0 ∷ 1 ∷ 0 ∷ 0x00 ∷ []) ∷ move 256 ∷ ask_report 0 ∷ [];
-      sees = accepts phases.Execution ∷ moves phases.Report 256 ∷ fine ∷ [];
+      calls = last_block 0x00 ∷ move 256 0x81 ∷ ask_report 0 ∷ [];
+      sees = accepts phases.Execution ∷ moves phases.Report (bytes_from 39 1) ∷ fine ∷ [];
       host = 0;
       address = 40;
     }
-    -- Read after clear is of the whole unit: segments of 8,192 and 2,048 bytes, and no less will do
+    -- Read after clear is of the whole unit: segments of 8,192 and 2,048 bytes, and no less will do; a longer buffer's other bytes stay
     ∷ record {
-      calls = command 0 (0x00 ∷ []) ∷ move 8191 ∷ move 8192 ∷ move 2047 ∷ move 2048 ∷ ask_report 0 ∷ [];
-      sees = accepts phases.Execution ∷ refuses statuses.BadBuffer ∷ moves phases.Execution 8192 ∷ refuses statuses.BadBuffer ∷ moves phases.Report 2048 ∷ fine ∷ [];
+      calls = command 0 (0x00 ∷ []) ∷ move 8191 0x81 ∷ move 8192 0x82 ∷ move 2047 0x83 ∷ move 2050 0x84 ∷ ask_report 0 ∷ [];
+      sees = accepts phases.Execution
+          ∷ hands_back statuses.BadBuffer (replicate 8191 0x81)
+          ∷ moves phases.Execution (bytes_from 0 32)
+          ∷ hands_back statuses.BadBuffer (replicate 2047 0x83)
+          ∷ moves phases.Report (bytes_from 32 8 ++ 0x84 ∷ 0x84 ∷ [])
+          ∷ fine
+          ∷ [];
+      host = 0;
+      address = 40;
+    }
+    -- the last block is written, and then read
+    ∷ record {
+      calls = last_block 0x02 ∷ move 256 0x81 ∷ ask_report 0 ∷ last_block 0x00 ∷ move 256 0x82 ∷ ask_report 0 ∷ [];
+      sees = accepts phases.Execution
+          ∷ moves phases.Report (replicate 256 0x81)
+          ∷ fine
+          ∷ accepts phases.Execution
+          ∷ moves phases.Report (replicate 256 0x81)
+          ∷ fine
+          ∷ [];
       host = 0;
       address = 40;
     }
