@@ -24,3 +24,4 @@ pub mod NoHost
 pub mod Describing
 pub mod Mail
 pub mod Faults
+pub mod Needed

@@ -11,3 +11,4 @@ pub mod Transfers
 pub mod Sample
 pub mod Small
 pub mod Describing
+pub mod Needed

@@ -7,8 +7,9 @@ ghost use Rattle.device.specs.Faults.{FaultsFrom};
 ghost use Rattle.device.specs.Isolation.{IsolationFrom};
 ghost use Rattle.device.specs.Laws.{ApartnessFrom, ExclusionFrom, WaitsFrom};
 ghost use Rattle.device.specs.Mail.{MailFrom};
+ghost use Rattle.device.specs.Needed.{Needed};
 ghost use Rattle.device.specs.Refusals.{RefusalsFrom};
-ghost use Rattle.device.specs.Sample.{Sampled};
+ghost use Rattle.device.specs.Sample.{Sampled, SampledByDevice};
 ghost use Rattle.device.specs.Small.{Table};
 ghost use Rattle.device.specs.Transfers.{MovingFrom, TransfersFrom};
 
@@ -209,6 +210,8 @@ pub fn power_on<S: Store>(number: u32, map: UnitMap, store: S) -> Device<S>
     ensures transfers { TransfersFrom (state S.blocks result) }
     ensures describing { DescribingFrom (state S.blocks result) }
     ensures sampled { Sampled }
+    ensures sampled_by_device { SampledByDevice }
+    ensures needed { Needed }
     ensures table { Table }
 {
     let controller = Controller {

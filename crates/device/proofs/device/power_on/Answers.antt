@@ -19,7 +19,8 @@ use Rattle.device.proofs.Refusals.{refusals_from}
 use Rattle.device.proofs.States.{sound_on}
 use Rattle.device.proofs.Transfers.{moving_from, transfers_from}
 use Rattle.device.proofs.Describing.{describing_from}
-use Rattle.device.proofs.Sample.{sampled}
+use Rattle.device.proofs.Sample.{sampled, sampled_by_device}
+use Rattle.device.proofs.Needed.{needed}
 use Rattle.device.proofs.Small.{small_device}
 use Rattle.device.proofs.device.power_on.Goals as goal
 
@@ -45,5 +46,7 @@ returns g c =
       transfers = subst TransfersFrom (sym made) (transfers_from _ (g.S.Store.lawful c.args.store).sized.whole (sound_on n map bs));
       describing = subst DescribingFrom (sym made) (describing_from _ (sound_on n map bs));
       sampled = sampled;
+      sampled_by_device = sampled_by_device;
+      needed = needed;
       table = small_device;
     }
