@@ -33,7 +33,7 @@ use Rattle.device.specs.Isolation.{by_host}
 use Rattle.device.specs.Faults.{fault_here, faults_in, faults_met, faults_of, faults_next, met_after, met_since, FaultsFrom}
 use Rattle.device.proofs.Tests.{one_of}
 use Rattle.device.proofs.Steps.{did, content, answer_is, host_other, host_own, hosts_kept}
-use Rattle.device.proofs.Mail.{hosts_run}
+use Rattle.device.proofs.Notices.{hosts_run}
 
 -- ---- The first of a list of faults.
 

@@ -22,6 +22,6 @@ pub mod Sample
 pub mod Small
 pub mod NoHost
 pub mod Describing
-pub mod Mail
+pub mod Notices
 pub mod Faults
 pub mod Needed

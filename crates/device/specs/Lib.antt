@@ -4,7 +4,7 @@ pub mod Answers
 pub mod Device
 pub mod Isolation
 pub mod Laws
-pub mod Mail
+pub mod Notices
 pub mod Faults
 pub mod Refusals
 pub mod Transfers

@@ -25,13 +25,15 @@ KeepsToUnits h = InEach (λ s c. Own (host_of s h) (asked s c)) h
 abbrev pub no_op : ℕ → Call
 no_op h = command h (0x34 ∷ [])
 
--- Host 0, which holds none, is kept out where host 1 locks the device, and is accepted alone.
+-- Host 1 locks the device before it.
 unfoldable pub kept_out : List Call
 kept_out = lock_device 1 ∷ no_op 0 ∷ []
 
+-- Nobody does.
 unfoldable pub let_in : List Call
 let_in = no_op 0 ∷ []
 
+-- Host 0, with no lock, is refused in the first and accepted in the second.
 pub record WithoutLock : Type 0 where
   pub same : filter (by_host 0) kept_out ≡ filter (by_host 0) let_in
   pub keeps : Keeps 0 cleared_state kept_out
@@ -40,10 +42,11 @@ pub record WithoutLock : Type 0 where
 
 -- ---- Its calls are the same.
 
--- Host 0, with unit 0 locked, writes to block 1 or makes no call.
+-- Host 0 writes to unit 0.
 unfoldable pub writes : List Call
 writes = write_one 0 0 ∷ send 0 7 ∷ []
 
+-- Host 0, with unit 0 locked, writes there, or makes no call: so its answers differ.
 pub record WithOtherCalls : Type 0 where
   pub holds : Holds (host_of locked_state 0)
   pub keeps : Keeps 0 locked_state writes
@@ -56,13 +59,15 @@ pub record WithOtherCalls : Type 0 where
 abbrev pub unlock_unit : ℕ → ℕ → Call
 unlock_unit h u = command h ((0x20 + u) ∷ 0x7b ∷ [])
 
--- Host 0 gives up its lock of unit 0, and host 1 writes there or does not.
+-- Host 0 gives up its lock of unit 0, and host 1 writes there.
 unfoldable pub gives_up : List Call
 gives_up = unlock_unit 0 0 ∷ ask_report 0 ∷ write_one 1 0 ∷ send 1 9 ∷ []
 
+-- It gives it up, and nobody writes there.
 unfoldable pub gives_up_alone : List Call
 gives_up_alone = unlock_unit 0 0 ∷ ask_report 0 ∷ []
 
+-- A block of unit 0, which host 0 had locked, ends with other bytes.
 pub record GivenUp : Type 0 where
   pub holds : Holds (host_of locked_state 0)
   pub same : filter (by_host 0) gives_up ≡ filter (by_host 0) gives_up_alone
@@ -73,13 +78,15 @@ pub record GivenUp : Type 0 where
 
 -- ---- Its calls keep to its units.
 
--- Host 0, with unit 0 locked, would write to unit 1: refused where host 1 has locked that, and accepted alone.
+-- Host 0 would write to unit 1, which host 1 locks before.
 unfoldable pub off_its_units : List Call
 off_its_units = lock_unit 1 1 ∷ write_one 0 1 ∷ []
 
+-- Nobody locks it.
 unfoldable pub off_alone : List Call
 off_alone = write_one 0 1 ∷ []
 
+-- Host 0, with unit 0 locked, is refused in the first and accepted in the second.
 pub record OffItsUnits : Type 0 where
   pub holds : Holds (host_of locked_state 0)
   pub same : filter (by_host 0) off_its_units ≡ filter (by_host 0) off_alone
@@ -94,13 +101,15 @@ pub record OffItsUnits : Type 0 where
 unfoldable pub reading_off : State
 reading_off = run locked_state (on_one 0x00 0 1 ∷ [])
 
--- It reads there what host 1 wrote just before, or what stood there.
+-- Host 1 writes there before host 0's segment.
 unfoldable pub reads_another : List Call
 reads_another = write_one 1 1 ∷ send 1 9 ∷ send 0 7 ∷ []
 
+-- Nobody writes there.
 unfoldable pub reads_alone : List Call
 reads_alone = send 0 7 ∷ []
 
+-- Host 0's segment hands over other bytes.
 pub record OpenOffItsUnits : Type 0 where
   pub holds : Holds (host_of reading_off 0)
   pub same : filter (by_host 0) reads_another ≡ filter (by_host 0) reads_alone

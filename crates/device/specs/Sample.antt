@@ -65,14 +65,15 @@ read_unit h u = command h ((0x20 + u) ∷ 0x00 ∷ [])
 abbrev pub ask_report : ℕ → Call
 ask_report h = report (record { device = 5; host = h }) (replicate 16 0xaa)
 
--- Its tickets.
+-- The execution ticket of host h, of device 5.
 abbrev pub execution_of : ℕ → Ticket
 execution_of h = tickets.Execution (record { device = 5; host = h })
 
+-- The report ticket of host h, of device 5.
 abbrev pub report_of : ℕ → Ticket
 report_of h = tickets.Report (record { device = 5; host = h })
 
--- What it answers to such a report where there is no status: 13 zeros, and the other bytes stay.
+-- What such a report is answered where there is no status: 13 zeros, and the other bytes stay.
 abbrev pub all_well : Answer
 all_well = reported (replicate 13 0 ++ replicate 3 0xaa)
 

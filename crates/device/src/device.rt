@@ -6,7 +6,7 @@ ghost use Rattle.device.specs.Describing.{DescribingFrom};
 ghost use Rattle.device.specs.Faults.{FaultsFrom};
 ghost use Rattle.device.specs.Isolation.{IsolationFrom};
 ghost use Rattle.device.specs.Laws.{ApartnessFrom, ExclusionFrom, WaitsFrom};
-ghost use Rattle.device.specs.Mail.{MailFrom};
+ghost use Rattle.device.specs.Notices.{NoticesFrom};
 ghost use Rattle.device.specs.Needed.{Needed};
 ghost use Rattle.device.specs.Refusals.{RefusalsFrom};
 ghost use Rattle.device.specs.Sample.{Sampled, SampledByDevice};
@@ -66,7 +66,7 @@ impl<S: Store> Device<S> {
         Ok(self.controller.take_notice(caller))
     }
 
-    /// The first store fault since a host's latest accepted message, or none.
+    /// The first store fault since a host's latest accepted message or clear, or none.
     pub fn fault(&mut self, host: u8) -> Result<Option<HostFault>, Status>
         ensures { (fault_answer result, state S.blocks self.new) ≡ after (state S.blocks self.old) (fault host) }
     {
@@ -194,16 +194,33 @@ impl<S: Store> Device<S> {
     }
 }
 
-/// Builds a device of that number over a store, at power on.
-/// Of every device so built: isolation, in the form asked for and in a stronger one; exclusion; that no wait outlives its cause; what a refused call leaves;
-/// that there are runs that meet all that isolation asks for; and a table of what messages come to on a small device.
+/// Builds a device at power on: of that number, which its tickets bear, with the units of that map, over a store of any
+/// kind. It refuses nothing: whether the store reaches the map's stated end is checked by each command.
+///
+/// Its state is the one `made`. Laws of every device so built, after any list of calls:
+/// - `isolation`: a host that holds locks and keeps to what they lock is alone there, whatever the others do.
+/// - `apartness`: any continuation is such a host's calls and the others' calls, side by side.
+/// - `exclusion`: no two hosts hold what excludes one another.
+/// - `waits`: a host that waits has something in its way.
+/// - `notices`: when a wait begins and ends, and when a notice comes and goes, with which code.
+/// - `faults`: the fault call answers the first store fault that the host's segments met since its latest accepted message
+///   or clear.
+/// - `refusals`: what a refused call leaves.
+/// - `moving`: a segment is refused for nothing but its ticket or its buffer.
+/// - `transfers`: what the segments of a whole transaction come to, however they are cut.
+/// - `describing`: an Extended Describe hands over the description of the units, and changes nothing else.
+///
+/// And runs, with what they come to:
+/// - `sampled`, `sampled_by_device`: all that isolation asks for holds, by a unit's lock and by the device's lock.
+/// - `needed`: for each thing that isolation asks for, a run that lacks it alone, of which the conclusion is false.
+/// - `table`: what messages come to on a small device.
 pub fn power_on<S: Store>(number: u32, map: UnitMap, store: S) -> Device<S>
     ensures made { state S.blocks result ≡ at_power_on number map (S.blocks store) }
     ensures isolation { IsolationFrom (state S.blocks result) }
     ensures apartness { ApartnessFrom (state S.blocks result) }
     ensures exclusion { ExclusionFrom (state S.blocks result) }
     ensures waits { WaitsFrom (state S.blocks result) }
-    ensures mail { MailFrom (state S.blocks result) }
+    ensures notices { NoticesFrom (state S.blocks result) }
     ensures faults { FaultsFrom (state S.blocks result) }
     ensures refusals { RefusalsFrom (state S.blocks result) }
     ensures moving { MovingFrom (state S.blocks result) }

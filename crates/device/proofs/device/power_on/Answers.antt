@@ -7,13 +7,13 @@ use Rattle.host.specs.Hosts.{at_start}
 use Rattle.device.specs.Device.{State}
 use Rattle.device.specs.Isolation.{IsolationFrom}
 use Rattle.device.specs.Laws.{ApartnessFrom, ExclusionFrom, WaitsFrom}
-use Rattle.device.specs.Mail.{MailFrom}
+use Rattle.device.specs.Notices.{NoticesFrom}
 use Rattle.device.specs.Faults.{FaultsFrom}
 use Rattle.device.specs.Transfers.{MovingFrom, TransfersFrom}
 use Rattle.device.specs.Describing.{DescribingFrom}
 use Rattle.device.proofs.Laws.{exclusion, waits}
 use Rattle.device.proofs.Runs.{isolation, apartness}
-use Rattle.device.proofs.Mail.{mail_from}
+use Rattle.device.proofs.Notices.{notices_from}
 use Rattle.device.proofs.Faults.{faults_from}
 use Rattle.device.proofs.Refusals.{refusals_from}
 use Rattle.device.proofs.States.{sound_on}
@@ -39,7 +39,7 @@ returns g c =
       apartness = subst ApartnessFrom (sym made) (apartness n map bs);
       exclusion = subst ExclusionFrom (sym made) (exclusion n map bs);
       waits = subst WaitsFrom (sym made) (waits n map bs);
-      mail = subst MailFrom (sym made) (mail_from n map bs);
+      notices = subst NoticesFrom (sym made) (notices_from n map bs);
       faults = subst FaultsFrom (sym made) (faults_from n map bs);
       refusals = refusals_from _;
       moving = subst MovingFrom (sym made) (moving_from _ (sound_on n map bs));

@@ -18,7 +18,7 @@ use Rattle.host.specs.Waits.{silent, powered, mail_at, notice_of, judged_wait, s
 use Rattle.device.specs.declared.ticket.Ticket.{Ticket}
 use Rattle.device.specs.Calls.{Call, command, segment, report, cancel, clear, notice, fault, by, Answer, accepted, done, noticed, refusal}
 use Rattle.device.specs.Device.{State, host_of, mail_of, Fixed, fixed, brings, does, serve, blocked, asked, in_way, commanded, posted, waiting, dropped, answer, next, run, power_on}
-use Rattle.device.specs.Mail.{RefusedFor, Clears, Noticed, MailLaw, code_for, MailFrom}
+use Rattle.device.specs.Notices.{RefusedFor, Clears, Noticed, MailLaw, code_for, NoticesFrom}
 use Rattle.device.proofs.Tests.{none_some, clash, one_of}
 use Rattle.device.proofs.Standing.{another_same, stands_blank}
 use Rattle.device.proofs.Steps.{did, content, answer_is, host_other, hosts_kept, posted_by, mail_kept}
@@ -245,8 +245,8 @@ pub hosts_run : (s : State) (calls : List Call) → length (run s calls).hosts �
 hosts_run s [] = refl
 hosts_run s (c ∷ calls) = hosts_run (next s c) calls ∙ hosts_kept s c
 
-pub mail_from : (number : ℕ) (map : UnitMap) (blocks : List Block) → MailFrom (power_on number map blocks)
-mail_from number map blocks =
+pub notices_from : (number : ℕ) (map : UnitMap) (blocks : List Block) → NoticesFrom (power_on number map blocks)
+notices_from number map blocks =
     let start = power_on number map blocks in
     record {
       starts = λ h l. get_or-replicate 8 h powered silent l;

@@ -51,10 +51,10 @@ abbrev pub code_for : Option Command → Status
 code_for None = statuses.DeviceAvailable
 code_for (Some k) = cond (is_on_unit k) statuses.UnitAvailable statuses.DeviceAvailable
 
--- MAIL, from a device in state `start`: there no host waits and each has the notice 3/1, and after any list of calls each further call does to every
--- host's wait and notice what is said above. So each wait comes from one 4/3, and each notice but 3/1 from one wait, with the code of the message that
--- was refused.
-pub record MailFrom (start : State) : Type 0 where
+-- NOTICES, from a device in state `start`: there no host waits and each has the notice 3/1, and after any list of calls each further call does to
+-- every host's wait and notice what is said above. So each wait comes from one 4/3, and each notice but 3/1 from one wait, with the code of the
+-- message that was refused.
+pub record NoticesFrom (start : State) : Type 0 where
   pub starts : (h : ℕ) → h < 8 → mail_of start h ≡ powered
   pub each : (calls : List Call) (c : Call) (h : ℕ) → MailLaw (run start calls) c h
   pub codes : (m : Message) → notice_of (wanted m) ≡ code_for m.command
