@@ -6,8 +6,8 @@ use host::record::Host;
 pub const HOSTS: usize = 8;
 
 /// All that a device holds but its store.
-#[derive(Clone, Copy)]
-pub struct Controller {
+#[derive(Drop)]
+pub(super) struct Controller {
     pub(super) number: u32,
     pub(super) map: UnitMap,
     // one array of pairs would be no plainer: each host's mail is written while the records of all hosts are read

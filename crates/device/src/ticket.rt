@@ -35,8 +35,8 @@ pub struct Returned<T> {
 }
 
 /// What a ticket bears: the number of its device, its host, and the phase that it is for.
-#[derive(Clone, Copy)]
-pub struct Pass {
+#[derive(Drop)]
+pub(super) struct Pass {
     pub(super) device: u32,
     pub(super) host: u8,
     pub(super) phase: Phase,
