@@ -1,2 +1,3 @@
-mod Tickets
 mod Keeping
+mod Fitting
+mod Closing

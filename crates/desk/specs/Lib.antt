@@ -1,3 +1,4 @@
 pub mod Answers
 pub mod Desks
+pub mod Fits
 pub mod Worlds

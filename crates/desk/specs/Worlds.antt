@@ -1,5 +1,5 @@
 -- A device with the tickets that its hosts hold, and what a call makes of it.
-use Rattle.std.specs.Prelude.{ℕ, List, [], Some, None, Ok, Err, Option, Result}
+use Rattle.std.specs.Prelude.{ℕ, zero, suc, ◌+◌, List, [], Some, None, Ok, Err, Option, Result}
 use Rattle.store.specs.Blocks.{Block}
 use Rattle.flex.specs.declared.status.Status.{Status}
 use Rattle.flex.specs.declared.unit_map.UnitMap.{UnitMap}
@@ -11,7 +11,7 @@ use Rattle.device.specs.declared.ticket.Ticket.TheVariants as tickets
 use Rattle.device.specs.Calls as calls
 use Rattle.device.specs.Device.{State, state, power_on, answer, next}
 use Rattle.desk.specs.declared.desk.Desk.{Desk}
-use Rattle.desk.specs.Desks.{empty_desk, with_slot, given_up, ended, all_ended}
+use Rattle.desk.specs.Desks.{empty_desk, held, with_slot}
 use Rattle.desk.specs.declared.answer.Answer.{Answer}
 use Rattle.desk.specs.declared.answer.Answer.TheVariants as answers
 use Rattle.desk.specs.declared.session.Session.{Session}
@@ -36,9 +36,9 @@ at_start number map blocks = record { state = power_on number map blocks; desk =
 abbrev pub without_ticket : World → ℕ → World
 without_ticket w h = record { state = w.state; desk = with_slot w.desk h None }
 
--- A ticket that is kept for a host; where there were one already, that would be given up.
+-- A ticket is kept for a host; the device is left as it is.
 abbrev pub with_ticket : World → ℕ → Ticket → World
-with_ticket w h k = record { state = ended w.state (given_up w.desk h k); desk = with_slot w.desk h (Some k) }
+with_ticket w h k = record { state = w.state; desk = with_slot w.desk h (Some k) }
 
 -- A ticket, if there is one, is kept for a host; without one nothing changes.
 abbrev pub with_any_ticket : World → ℕ → Option Ticket → World
@@ -134,10 +134,10 @@ by_report w h None buffer = beside buffer (no_ticket w)
 by_report w h (Some (tickets.Execution k)) buffer = beside buffer (no_ticket w)
 by_report w h (Some (tickets.Report k)) buffer = by_lending (without_ticket w h) h (calls.report k buffer)
 
--- A cancel with the host's ticket, of either kind, which is taken for it; without one nothing is called, and the world stays.
+-- A cancel with the host's ticket, of either kind, which ends with it: it is always done. Without one nothing is called, and the world stays.
 abbrev pub by_cancel : World → ℕ → Option Ticket → Answer × World
 by_cancel w h None = no_ticket w
-by_cancel w h (Some k) = by_call (without_ticket w h) h (calls.cancel k)
+by_cancel w h (Some k) = (answers.Done, record { state = next w.state (calls.cancel k); desk = with_slot w.desk h None })
 
 -- A view of a host's parameters tells them, or the status of a refusal; a view changes nothing.
 abbrev pub parameters_told : Result Parameters Status → Answer
@@ -151,6 +151,15 @@ locks_told (Err status) = answers.Refused status
 
 -- ---- The end: the tickets that are still open are cancelled, and the device is powered off.
 
+-- The world after host h has given its ticket back, if it has one.
+abbrev pub given_back : World → ℕ → World
+given_back w h = (by_cancel w h (held w.desk h)).1
+
+-- And after n hosts have, from host h on, in their order.
+abbrev pub all_given_back : World → ℕ → ℕ → World
+all_given_back w zero h = w
+all_given_back w (suc n) h = all_given_back (given_back w h) n (h + 1)
+
 -- The state of the device at the end: every ticket that is still open is cancelled, in the hosts' order.
 abbrev pub at_end : World → State
-at_end w = all_ended w.state w.desk
+at_end w = (all_given_back w 8 0).state

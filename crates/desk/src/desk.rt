@@ -1,22 +1,18 @@
-ghost use Rattle.std.specs.Prelude.{◌≡◌, Some, None};
-ghost use Rattle.device.specs.Device.{state};
-ghost use Rattle.desk.specs.Desks.{empty_desk, held, with_slot, given_up, ended, all_ended};
+ghost use Rattle.std.specs.Prelude.{◌≡◌, ◌<◌, ℕ, Some, None};
+ghost use Rattle.desk.specs.Desks.{empty_desk, held, with_slot};
 
 use device::controller::HOSTS;
-use device::device::Device;
-use device::give_up::give_up;
 use device::ticket::Ticket;
 use std::array;
-use store::store::Store;
 
-/// The ticket that each host holds, if any. It is not `Drop`: `close` ends the tickets.
+/// The ticket that each host holds, if any. It is not `Drop`: `end` takes one that holds none.
 pub struct Desk {
     slots: [Option<Ticket>; HOSTS],
 }
 
 impl Desk {
     /// No ticket.
-    pub fn new() -> Desk
+    pub(super) fn new() -> Desk
         ensures { result ≡ empty_desk }
     {
         Desk {
@@ -27,7 +23,7 @@ impl Desk {
     /// Takes a host's ticket.
     // By index, here and in `put`: `get_mut` was tried, and the proof doesn't close, since its contract doesn't say what the
     // array is after.
-    pub fn take(&mut self, host: u8) -> Option<Ticket>
+    pub(super) fn take(&mut self, host: u8) -> Option<Ticket>
         ensures value { result ≡ held self.old host }
         ensures after { self.new ≡ with_slot self.old host None }
     {
@@ -39,42 +35,39 @@ impl Desk {
         }
     }
 
-    /// Keeps a host's ticket. A device hands out one at a time; another that were there would be given up.
-    pub fn put<S: Store>(&mut self, device: &mut Device<S>, host: u8, ticket: Ticket)
-        ensures after { self.new ≡ with_slot self.old host (Some ticket) }
-        ensures device { state S.blocks device.new ≡ ended (state S.blocks device.old) (given_up self.old host ticket) }
+    /// Keeps a ticket for a host that has none.
+    pub(super) fn put(&mut self, host: u8, ticket: Ticket)
+        requires place { host < 8 }
+        requires free { held self.old host ≡ None }
+        ensures { self.new ≡ with_slot self.old host (Some ticket) }
     {
-        let place = usize::from(host);
-        if place < HOSTS {
-            end(device, self.slots[place].replace(ticket));
-        } else {
-            give_up(device, ticket);
-        }
+        vacant(self.slots[usize::from(host)].replace(ticket));
     }
 
-    /// Ends the tickets that are still open.
-    pub fn close<S: Store>(self, device: &mut Device<S>)
-        ensures { state S.blocks device.new ≡ all_ended (state S.blocks device.old) self }
+    /// Ends a desk that holds no ticket.
+    pub(super) fn end(self)
+        requires { (h : ℕ) → h < 8 → held self h ≡ None }
     {
         let Desk { slots } = self;
         // by name: a loop was tried, and the check refuses it, since it could end early and let tickets go
         let [a, b, c, d, e, f, g, h] = slots;
-        end(device, a);
-        end(device, b);
-        end(device, c);
-        end(device, d);
-        end(device, e);
-        end(device, f);
-        end(device, g);
-        end(device, h);
+        vacant(a);
+        vacant(b);
+        vacant(c);
+        vacant(d);
+        vacant(e);
+        vacant(f);
+        vacant(g);
+        vacant(h);
     }
 }
 
-/// Ends a ticket, if there is one.
-fn end<S: Store>(device: &mut Device<S>, ticket: Option<Ticket>)
-    ensures { state S.blocks device.new ≡ ended (state S.blocks device.old) ticket }
+/// Ends a place with no ticket.
+fn vacant(place: Option<Ticket>)
+    requires { place ≡ None }
 {
-    if let Some(ticket) = ticket {
-        give_up(device, ticket);
+    match place {
+        None => {}
+        Some(_ticket) => unreachable!(),
     }
 }

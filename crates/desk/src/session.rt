@@ -1,24 +1,28 @@
-ghost use Rattle.std.specs.Prelude.{◌≡◌, length};
-ghost use Rattle.device.specs.Calls as calls;
-ghost use Rattle.device.specs.Device.{locks_of, parameters_of, state};
-ghost use Rattle.desk.specs.Answers.{handed};
-ghost use Rattle.desk.specs.Desks.{empty_desk, held};
-ghost use Rattle.desk.specs.Worlds.{at_end, by_call, by_cancel, by_report, by_segment, comes_to, locks_told, parameters_told, with_ticket, world};
+ghost use Rattle.desk.specs.Fits.{AllFit};
 
 use super::answer::Answer;
 use super::desk::Desk;
+use device::controller::HOSTS;
 use device::device::Device;
 use device::ticket::{Returned, Ticket};
 use store::store::Store;
 
-/// A device that is on, and the tickets that its hosts hold. It is not `Drop`: `power_off` ends both.
+/// A device that is on, and the tickets that its hosts hold: each is its host's own, and fits the open transaction that the
+/// host has. It is not `Drop`: `power_off` ends both.
 pub struct Session<S> {
     device: Device<S>,
     desk: Desk,
+    ghost fits: { AllFit device.controller.number device.controller.hosts desk },
 }
 
 impl<S: Store> Session<S> {
-    /// A device whose hosts hold no ticket.
+    ghost use Rattle.std.specs.Prelude.{◌≡◌, length};
+    ghost use Rattle.device.specs.Calls as calls;
+    ghost use Rattle.device.specs.Device.{locks_of, parameters_of, state};
+    ghost use Rattle.desk.specs.Desks.{empty_desk, held};
+    ghost use Rattle.desk.specs.Worlds.{at_end, by_call, by_cancel, by_report, by_segment, comes_to, locks_told, parameters_told, world};
+
+    /// A device whose hosts hold no ticket here.
     pub fn new(device: Device<S>) -> Session<S>
         ensures { world S.blocks result ≡ record { state = state S.blocks device; desk = empty_desk } }
     {
@@ -29,33 +33,17 @@ impl<S: Store> Session<S> {
     }
 
     /// Cancels the tickets that are still open, powers the device off, and hands back its store.
-    pub fn power_off(self) -> S
+    pub fn power_off(mut self) -> S
         ensures same { S.blocks result ≡ (at_end (world S.blocks self)).blocks }
         ensures settled { S.settled result }
         ensures holds { S.stored result ≡ (at_end (world S.blocks self)).blocks }
     {
-        let Session { mut device, desk } = self;
-        desk.close(&mut device);
+        for host in 0..HOSTS as u8 {
+            self.cancel(host);
+        }
+        let Session { device, desk } = self;
+        desk.end();
         device.power_off()
-    }
-
-    /// Keeps a ticket for a host, and tells of which kind it is.
-    fn hand(&mut self, host: u8, ticket: Ticket) -> Answer
-        ensures answer { result ≡ handed ticket }
-        ensures after { world S.blocks self.new ≡ with_ticket (world S.blocks self.old) host ticket }
-    {
-        let answer = Answer::handed(&ticket);
-        self.desk.put(&mut self.device, host, ticket);
-        answer
-    }
-
-    /// Keeps a ticket that is not of the kind that a call takes.
-    fn keep(&mut self, host: u8, ticket: Ticket) -> Answer
-        ensures answer { result ≡ Answer.NoTicket }
-        ensures after { world S.blocks self.new ≡ with_ticket (world S.blocks self.old) host ticket }
-    {
-        self.desk.put(&mut self.device, host, ticket);
-        Answer::NoTicket
     }
 
     /// Sends a host's command message. A ticket that it is given is kept for it.
@@ -63,7 +51,11 @@ impl<S: Store> Session<S> {
         ensures { (result, world S.blocks self.new) ≡ by_call (world S.blocks self.old) host (calls.command host message.now) }
     {
         match self.device.command(host, message) {
-            Ok(ticket) => self.hand(host, ticket),
+            Ok(ticket) => {
+                let answer = Answer::handed(&ticket);
+                self.desk.put(host, ticket);
+                answer
+            }
             Err(status) => Answer::Refused(status),
         }
     }
@@ -74,14 +66,20 @@ impl<S: Store> Session<S> {
     {
         match self.desk.take(host) {
             Some(Ticket::Execution(ticket)) => match self.device.segment(ticket, buffer) {
-                Ok(ticket) => self.hand(host, ticket),
+                Ok(ticket) => {
+                    let answer = Answer::handed(&ticket);
+                    self.desk.put(host, ticket);
+                    answer
+                }
                 Err(Returned { status, ticket }) => {
-                    self.desk
-                        .put(&mut self.device, host, Ticket::Execution(ticket));
+                    self.desk.put(host, Ticket::Execution(ticket));
                     Answer::Refused(status)
                 }
             },
-            Some(Ticket::Report(ticket)) => self.keep(host, Ticket::Report(ticket)),
+            Some(Ticket::Report(ticket)) => {
+                self.desk.put(host, Ticket::Report(ticket));
+                Answer::NoTicket
+            }
             None => Answer::NoTicket,
         }
     }
@@ -94,17 +92,19 @@ impl<S: Store> Session<S> {
             Some(Ticket::Report(ticket)) => match self.device.report(ticket, buffer) {
                 Ok(()) => Answer::Done,
                 Err(Returned { status, ticket }) => {
-                    self.desk
-                        .put(&mut self.device, host, Ticket::Report(ticket));
+                    self.desk.put(host, Ticket::Report(ticket));
                     Answer::Refused(status)
                 }
             },
-            Some(Ticket::Execution(ticket)) => self.keep(host, Ticket::Execution(ticket)),
+            Some(Ticket::Execution(ticket)) => {
+                self.desk.put(host, Ticket::Execution(ticket));
+                Answer::NoTicket
+            }
             None => Answer::NoTicket,
         }
     }
 
-    /// Gives back the ticket that a host has.
+    /// Gives back the ticket that a host has. It is the host's own, so the device accepts it.
     pub fn cancel(&mut self, host: u8) -> Answer
         ensures { (result, world S.blocks self.new) ≡ by_cancel (world S.blocks self.old) host (held self.old.desk host) }
     {
@@ -113,10 +113,7 @@ impl<S: Store> Session<S> {
         };
         match self.device.cancel(ticket) {
             Ok(()) => Answer::Done,
-            Err(Returned { status, ticket }) => {
-                self.desk.put(&mut self.device, host, ticket);
-                Answer::Refused(status)
-            }
+            Err(_returned) => unreachable!(),
         }
     }
 

@@ -1,22 +1,32 @@
-use Rattle.std.proofs.Common.{refl, []}
+use Rattle.std.proofs.Common.{refl}
 use Rattle.device.specs.Calls as calls
 use Rattle.device.specs.Device.{state}
-use Rattle.desk.specs.declared.answer.Answer.TheVariants as answers
 use Rattle.desk.specs.Worlds.{world}
-use Rattle.desk.proofs.Keeping.{cancel_so, world_so}
+use Rattle.desk.proofs.Keeping.{cancel_so}
+use Rattle.desk.proofs.Fitting.{none_own, spent_own, never_returned}
 use Rattle.desk.proofs.session.Session.cancel.Goals as goal
 
-pub returns-in-Ok : goal.returns-in-Ok
-returns-in-Ok g c =
-    let means = g.S.Store.blocks in
-    cancel_so (world means c.args.self.now) c.args.host [] calls.done (state means c.cancel.new.self) c.take.new.self
-    answers.Done (world means (record { device = c.cancel.new.self; desk = c.take.new.self })) c.in-Some.ticket c.in-Some.ensures.value
-    c.take.ensures.after c.in-Ok.ensures refl
+pub invariant_of-self : goal.invariant_of-self
+invariant_of-self g c =
+    let was = c.args.self.now in
+    record { fits = none_own (state g.S.Store.blocks was.device) c.args.host was.desk c.take.new.self was.fits c.in_default.ensures.value c.take.ensures.after }
 
-pub returns-in-Err : goal.returns-in-Err
-returns-in-Err g c =
-    let means = g.S.Store.blocks in
-    let r = c.in-Err.field-0 in
-    cancel_so (world means c.args.self.now) c.args.host [] (calls.returned r.status r.ticket []) (state means c.cancel.new.self) c.take.new.self
-    (answers.Refused r.status) (world means (record { device = c.put.new.device; desk = c.put.new.self })) c.in-Some.ticket c.in-Some.ensures.value
-    c.take.ensures.after c.in-Err.ensures (world_so _ _ _ _ c.put.ensures.device c.put.ensures.after)
+pub invariant_of-self-2 : goal.invariant_of-self-2
+invariant_of-self-2 g c =
+    let blocks = g.S.Store.blocks in
+    let was = c.args.self.now in
+    let k = c.in-Some.ticket in
+    record { fits = spent_own (state blocks was.device) (state blocks c.cancel.new.self) (calls.cancel k) _ c.args.host k was.desk c.take.new.self was.fits c.in-Some.ensures.value refl c.cancel.ensures c.take.ensures.after }
+
+pub unreachable-requires : goal.unreachable-requires
+unreachable-requires g c =
+    let blocks = g.S.Store.blocks in
+    let was = c.args.self.now in
+    let r = c.in-Err._returned in
+    never_returned (state blocks was.device) (state blocks c.cancel.new.self) c.args.host r.ticket c.in-Some.ticket r.status _ was.desk was.fits c.in-Some.ensures.value c.in-Err.ensures
+
+pub returns : goal.returns
+returns g c =
+    let blocks = g.S.Store.blocks in
+    cancel_so (world blocks c.args.self.now) c.args.host (state blocks c.cancel.new.self) c.take.new.self c.in-Some.ticket c.in-Some.ensures.value
+    c.take.ensures.after c.in-Ok.ensures

@@ -1,9 +1,16 @@
-use Rattle.std.proofs.Common.{Some, None}
+use Rattle.std.proofs.Common.{refl, Some, None}
 use Rattle.device.specs.Calls as calls
 use Rattle.device.specs.Device.{state}
 use Rattle.desk.specs.Worlds.{world}
 use Rattle.desk.proofs.Keeping.{called_so}
+use Rattle.desk.proofs.Fitting.{quiet_own, none_by_notice}
 use Rattle.desk.proofs.session.Session.notice.Goals as goal
+
+pub invariant_of-self : goal.invariant_of-self
+invariant_of-self g c =
+    let blocks = g.S.Store.blocks in
+    let was = c.args.self.now in
+    record { fits = quiet_own (state blocks was.device) (state blocks c.notice.new.self) (calls.notice c.args.host) _ was.desk was.fits refl (none_by_notice c.notice.result) c.notice.ensures }
 
 pub returns-in-Ok-Some : goal.returns-in-Ok-Some
 returns-in-Ok-Some g c =
