@@ -6,7 +6,7 @@ use device::ticket::Ticket;
 use std::array;
 
 /// The ticket that each host holds, if any. It is not `Drop`: `end` takes one that holds none.
-pub struct Desk {
+pub(super) struct Desk {
     slots: [Option<Ticket>; HOSTS],
 }
 

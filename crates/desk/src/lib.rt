@@ -2,5 +2,5 @@
 #![tactic(auto)]
 
 pub mod answer;
-pub mod desk;
+mod desk;
 pub mod session;
