@@ -1,6 +1,6 @@
 -- What a fault call answers: the fault that is kept of a host is the first that its segments met.
-use Rattle.std.proofs.Common.{◌≡◌, ℕ, zero, suc, ◌<◌, ◌≤◌, Bool, true, false, cond, ltb, leb, eqb, ◌&&◌, ◌≢◌, ◌⊎◌, List, [], ◌∷◌, ◌++◌, take, length, is_some, Some, None, Ok, Err, Option, Result, sym, refl, ap, ◌∙◌, subst, ap₂, inl, inr, arith}
-use Rattle.std.proofs.lemmas.Bool.{cases_eq, eqb-true, eqb-false}
+use Rattle.std.proofs.Common.{◌≡◌, ℕ, suc, ◌<◌, Bool, true, false, cond, ltb, leb, eqb, ◌&&◌, List, [], ◌∷◌, ◌++◌, take, length, is_some, Some, None, Ok, Err, Option, Result, sym, refl, ap, ◌∙◌, subst, ap₂, arith}
+use Rattle.std.proofs.lemmas.Bool.{eqb-true, eqb-false}
 use Rattle.std.proofs.lemmas.Bool.Decides.{nat_tests}
 use Rattle.std.proofs.lemmas.List.{get_or-replicate}
 use Rattle.std.specs.List.{slice_get}
@@ -16,7 +16,6 @@ use Rattle.host.specs.declared.fault.HostFault.{HostFault}
 use Rattle.host.specs.declared.mail.Mail.{Mail}
 use Rattle.host.specs.declared.record.Host.{Host}
 use Rattle.host.specs.declared.transaction.Failure.{Failure}
-use Rattle.host.specs.declared.transaction.Phase.{Phase}
 use Rattle.host.specs.declared.transaction.Phase.TheVariants as phases
 use Rattle.host.specs.declared.transaction.Transaction.{Transaction}
 use Rattle.host.specs.Hosts.{at_start, blank}
@@ -25,15 +24,13 @@ use Rattle.host.specs.Progress.{lies_in}
 use Rattle.device.specs.declared.ticket.ExecutionTicket.{ExecutionTicket}
 use Rattle.device.specs.declared.ticket.ReportTicket.{ReportTicket}
 use Rattle.device.specs.declared.ticket.Ticket.{Ticket}
-use Rattle.device.specs.Calls.{Call, command, segment, report, cancel, clear, notice, fault, by, Answer, accepted, moved, reported, done, noticed, faulted, refusal, returned}
-use Rattle.transfer.specs.Segments.{start_of, span, met, write_by, moved_by_command, message_of, holds_segment, told}
+use Rattle.device.specs.Calls.{Call, command, segment, report, cancel, clear, notice, fault, by, faulted}
+use Rattle.transfer.specs.Segments.{start_of, met, write_by, moved_by_command, message_of, holds_segment}
 use Rattle.transfer.proofs.Faults.{fault_by, read_faults, write_faults}
-use Rattle.device.specs.Device.{State, host_of, mail_of, Fixed, fixed, asked, in_way, Served, says, is_phase, fitting, executable, number_on, phase_on, segment_moved, segmented, reported_on, cancelled, does, serve, start, answer, next, run, power_on}
+use Rattle.device.specs.Device.{State, host_of, mail_of, Fixed, fixed, asked, in_way, Served, is_phase, fitting, executable, number_on, phase_on, segmented, reported_on, cancelled, serve, answer, next, run, power_on}
 use Rattle.device.specs.Isolation.{by_host}
 use Rattle.device.specs.Faults.{fault_here, faults_in, faults_met, faults_of, faults_next, met_after, met_since, FaultsFrom}
-use Rattle.device.proofs.Tests.{one_of}
 use Rattle.device.proofs.Steps.{did, content, answer_is, host_other, host_own, hosts_kept}
-use Rattle.device.proofs.Notices.{hosts_run}
 
 -- ---- The first of a list of faults.
 

@@ -1,5 +1,5 @@
 -- What isolation asks for is needed, by computing the runs.
-use Rattle.std.proofs.Common.{◌≡◌, ℕ, zero, false, ◌+◌, List, [], ◌∷◌, Some, None, Option, refl, ap, inl, inr, arith}
+use Rattle.std.proofs.Common.{◌≡◌, ℕ, false, ◌+◌, List, [], ◌∷◌, Some, None, Option, refl, ap, inr, arith}
 use Rattle.store.specs.Blocks.{Block, Contents, sound, damaged}
 use Rattle.message.specs.Decoding.{decoded}
 use Rattle.host.specs.Hosts.{stands, some_below}
@@ -8,9 +8,9 @@ use Rattle.host.specs.Waits.{settle}
 use Rattle.transfer.specs.Segments.{moved_by_command}
 use Rattle.device.specs.Calls.{Answer, accepted as takes, moved, refusal}
 use Rattle.device.specs.Device.{answer, next, host_of}
-use Rattle.device.specs.Isolation.{Holds, AtHome, KeepsIn}
+use Rattle.device.specs.Isolation.{AtHome}
 use Rattle.device.specs.Sample.{cleared_state, locked_state}
-use Rattle.device.specs.Needed.{GivesUpNone, KeepsToUnits, kept_out, let_in, WithoutLock, writes, WithOtherCalls, gives_up, gives_up_alone, GivenUp, off_its_units, off_alone, OffItsUnits, reading_off, reads_another, reads_alone, OpenOffItsUnits, Needed}
+use Rattle.device.specs.Needed.{kept_out, let_in, WithoutLock, writes, WithOtherCalls, gives_up, gives_up_alone, GivenUp, off_its_units, off_alone, OffItsUnits, reading_off, reads_another, reads_alone, OpenOffItsUnits, Needed}
 use Rattle.device.proofs.Tests.{clash}
 use Rattle.device.proofs.Sample.{sample_holds, sample_home}
 

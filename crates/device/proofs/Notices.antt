@@ -14,15 +14,15 @@ use Rattle.host.specs.declared.record.Host.{Host}
 use Rattle.host.specs.declared.want.Want.{Want}
 use Rattle.host.specs.Hosts.{stands, another}
 use Rattle.host.specs.Messages.{want_of, wanted}
-use Rattle.host.specs.Waits.{silent, powered, mail_at, notice_of, judged_wait, settled_by, settled}
+use Rattle.host.specs.Waits.{silent, powered, notice_of, judged_wait, settled_by, settled}
 use Rattle.device.specs.declared.ticket.Ticket.{Ticket}
-use Rattle.device.specs.Calls.{Call, command, segment, report, cancel, clear, notice, fault, by, Answer, accepted, done, noticed, refusal}
-use Rattle.device.specs.Device.{State, host_of, mail_of, Fixed, fixed, brings, does, serve, blocked, asked, in_way, commanded, posted, waiting, dropped, answer, next, run, power_on}
+use Rattle.device.specs.Calls.{Call, command, segment, report, cancel, clear, notice, fault, by, accepted, done, noticed, refusal}
+use Rattle.device.specs.Device.{State, host_of, mail_of, Fixed, fixed, brings, does, serve, blocked, asked, in_way, posted, answer, next, run, power_on}
 use Rattle.device.specs.Notices.{RefusedFor, Clears, Noticed, MailLaw, code_for, NoticesFrom}
 use Rattle.device.proofs.Tests.{none_some, clash, one_of}
 use Rattle.device.proofs.Standing.{another_same, stands_blank}
 use Rattle.device.proofs.Steps.{did, content, answer_is, host_other, hosts_kept, posted_by, mail_kept}
-use Rattle.device.proofs.States.{Sound, sound_on, sound_next, sound_run}
+use Rattle.device.proofs.States.{Sound, sound_on, sound_run}
 use Rattle.device.proofs.Own.{mail_own, mail_other}
 
 -- ---- The message that a call brings to the lock check.

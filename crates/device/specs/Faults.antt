@@ -7,7 +7,7 @@ use Rattle.message.specs.declared.command.Command.{Command}
 use Rattle.message.specs.declared.command.Command.TheVariants as commands
 use Rattle.host.specs.declared.fault.HostFault.{HostFault}
 use Rattle.host.specs.declared.transaction.Transaction.{Transaction}
-use Rattle.device.specs.Calls.{Call, clear, fault, by, Answer, accepted, moved, done, faulted}
+use Rattle.device.specs.Calls.{Call, clear, fault, Answer, accepted, moved, done, faulted}
 use Rattle.transfer.specs.Segments.{span}
 use Rattle.device.specs.Device.{State, host_of, start, reach, answer, next, run}
 use Rattle.device.specs.Isolation.{by_host}

@@ -1,6 +1,5 @@
 -- What the isolation theorem asks for is needed, each part of it: a run in which all else holds, and its conclusion is false.
 use Rattle.std.specs.Prelude.{◌≡◌, ℕ, ◌+◌, true, List, [], ◌∷◌, filter}
-use Rattle.host.specs.declared.record.Host.{Host}
 use Rattle.device.specs.Calls.{Call, command}
 use Rattle.device.specs.Device.{State, host_of, asked, next, run}
 use Rattle.device.specs.Isolation.{Own, AtHome, GivesUp, Holds, Keeps, Isolated, by_host}

@@ -10,7 +10,7 @@ use Rattle.host.specs.Hosts.{stands, another}
 use Rattle.host.specs.Messages.{wanted}
 use Rattle.host.specs.Waits.{notice_of, powered}
 use Rattle.device.specs.Calls.{Call, clear, notice, by, done, noticed, refusal}
-use Rattle.device.specs.Device.{State, host_of, mail_of, asked, answer, next, run}
+use Rattle.device.specs.Device.{State, mail_of, asked, answer, next, run}
 
 -- Host h's message is refused with 4/3 by call c, and asks for w.
 pub record RefusedFor (s : State) (c : Call) (h : ℕ) (w : Want) : Type 0 where

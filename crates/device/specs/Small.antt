@@ -9,7 +9,7 @@ use Rattle.flex.specs.declared.unit.Unit.{Unit as DiscUnit}
 use Rattle.flex.specs.declared.unit_map.UnitMap.{UnitMap}
 use Rattle.flex.specs.Maps.{padded}
 use Rattle.host.specs.declared.transaction.Phase.{Phase}
-use Rattle.device.specs.Calls.{Call, command, segment, clear, Answer, accepted, moved, reported, done, noticed, faulted, refusal, returned}
+use Rattle.device.specs.Calls.{Call, command, segment, clear, Answer, accepted, moved, reported, refusal, returned}
 use Rattle.host.specs.declared.transaction.Phase.TheVariants as phases
 use Rattle.device.specs.Device.{State, host_of, run, power_on, phase_on}
 use Rattle.device.specs.Isolation.{answers}
