@@ -1,6 +1,6 @@
 -- What one call does to a host's wait and notice: one of five, and from them the law.
 use Rattle.std.proofs.Common.{◌≡◌, ℕ, ◌<◌, ◌≤◌, Bool, true, false, cond, ltb, ◌≢◌, ◌⊎◌, List, [], ◌∷◌, length, is_some, Some, None, Option, sym, refl, ap, ◌∙◌, subst, inl, inr, arith}
-use Rattle.std.proofs.lemmas.Bool.{cases_eq, cases_lt}
+use Rattle.std.proofs.lemmas.Bool.{cases_eq, cases_lt, ltb-true}
 use Rattle.std.proofs.lemmas.Bool.Decides.{nat_tests}
 use Rattle.std.proofs.lemmas.List.{get_or_past, get_or-replicate}
 use Rattle.store.specs.Blocks.{Block}
@@ -12,13 +12,13 @@ use Rattle.flex.specs.declared.unit_map.UnitMap.{UnitMap}
 use Rattle.host.specs.declared.mail.Mail.{Mail}
 use Rattle.host.specs.declared.record.Host.{Host}
 use Rattle.host.specs.declared.want.Want.{Want}
-use Rattle.host.specs.Hosts.{stands, another}
+use Rattle.host.specs.Hosts.{cleared, stands, another}
 use Rattle.host.specs.Messages.{want_of, wanted}
 use Rattle.host.specs.Waits.{silent, powered, notice_of, judged_wait, settled_by, settled}
 use Rattle.device.specs.declared.ticket.Ticket.{Ticket}
 use Rattle.device.specs.Calls.{Call, command, segment, report, cancel, clear, notice, fault, by, accepted, done, noticed, refusal}
-use Rattle.device.specs.Device.{State, host_of, mail_of, Fixed, fixed, brings, does, serve, blocked, asked, in_way, posted, answer, next, run, power_on}
-use Rattle.device.specs.Notices.{RefusedFor, Clears, Noticed, MailLaw, code_for, NoticesFrom}
+use Rattle.device.specs.Device.{State, host_of, mail_of, Fixed, fixed, says, brings, does, serve, blocked, asked, in_way, posted, answer, next, run, power_on}
+use Rattle.device.specs.Notices.{RefusedFor, Clears, Noticed, WaitAfter, waits_on, noticed_then, waits_anew, wait_dropped, NoticeAfter, kept, handed_over, replaced, notice_dropped, MailLaw, code_for, NoticesFrom}
 use Rattle.device.proofs.Tests.{none_some, clash, one_of}
 use Rattle.device.proofs.Standing.{another_same, stands_blank}
 use Rattle.device.proofs.Steps.{did, content, answer_is, host_other, hosts_kept, posted_by, mail_kept}
@@ -68,6 +68,15 @@ refused_in_way s c m t e r =
 clear_done : (s : State) (h : ℕ) → h < 8 → is_some (host_of s h).transaction ≡ false → answer s (clear h) ≡ done
 unfolding did
 clear_done s h l t = let z : ltb h 8 ≡ true = grind (arith, nat_tests) in answer_is s (clear h) ∙ (rw (z, t) refl)
+
+done_says : (b t : Bool) (x : Host) → (cond b (cond t (says (refusal statuses.MessageSequence) x) (says done cleared)) (says (refusal statuses.BadHost) x)).answer ≡ done → (b ≡ true) × (t ≡ false)
+done_says true false x e = (refl, refl)
+done_says true true x e = let z : ◌≡◌ {A = ℕ} 0 1 = cc in absurd (omega arith)
+done_says false t x e = let z : ◌≡◌ {A = ℕ} 0 1 = cc in absurd (omega arith)
+
+clear_open : (s : State) (h : ℕ) → answer s (clear h) ≡ done → (ltb h 8 ≡ true) × (is_some (host_of s h).transaction ≡ false)
+unfolding did
+clear_open s h e = done_says (ltb h 8) (is_some (host_of s h).transaction) (host_of s h) (sym (answer_is s (clear h)) ∙ e)
 
 notice_told_by : (s : State) (h : ℕ) → h < 8 → answer s (notice h) ≡ noticed (mail_of s h).notice
 unfolding did
@@ -183,12 +192,12 @@ module _ (s : State) (c : Call) (h : ℕ) (i : Sound s) (eight : length s.hosts 
   begins (empties k e) w p = absurd (none_some w (sym (waits_are _ e) ∙ p))
   begins (tells k e) w p = inl (sym (waits_are _ e) ∙ p)
 
-  ends : Way s c h → (w : Want) → (mail_of s h).wait ≡ Some w → ((mail_of (next s c) h).wait ≡ Some w) ⊎ (Noticed s (next s c) h w ⊎ (((v : Want) × RefusedFor s c h v) ⊎ Clears s c h))
-  ends (stays e) w p = inl (waits_are _ e ∙ p)
-  ends (ends_so v k) w p = let q : v ≡ w = let j = k.waited in cc in inr (inl (subst (Noticed s (next s c) h) q k))
-  ends (waits_for v r e) w p = inr (inr (inl (v, r)))
-  ends (empties k e) w p = inr (inr (inr k))
-  ends (tells k e) w p = inl (waits_are _ e ∙ p)
+  ends : Way s c h → (w : Want) → (mail_of s h).wait ≡ Some w → WaitAfter s c h w
+  ends (stays e) w p = waits_on (waits_are _ e ∙ p)
+  ends (ends_so v k) w p = let q : v ≡ w = let j = k.waited in cc in noticed_then (subst (Noticed s (next s c) h) q k)
+  ends (waits_for v r e) w p = waits_anew v r
+  ends (empties k e) w p = wait_dropped k
+  ends (tells k e) w p = waits_on (waits_are _ e ∙ p)
 
   comes : Way s c h → (n : Status) → (mail_of (next s c) h).notice ≡ Some n → ((mail_of s h).notice ≡ Some n) ⊎ ((w : Want) × Noticed s (next s c) h w × (n ≡ notice_of w))
   comes (stays e) n p = inl (sym (notices_are _ e) ∙ p)
@@ -197,12 +206,12 @@ module _ (s : State) (c : Call) (h : ℕ) (i : Sound s) (eight : length s.hosts 
   comes (empties k e) n p = absurd (none_some n (sym (notices_are _ e) ∙ p))
   comes (tells k e) n p = absurd (none_some n (sym (notices_are _ e) ∙ p))
 
-  goes : Way s c h → (n : Status) → (mail_of s h).notice ≡ Some n → ((mail_of (next s c) h).notice ≡ Some n) ⊎ ((c ≡ notice h) ⊎ (((w : Want) × Noticed s (next s c) h w) ⊎ Clears s c h))
-  goes (stays e) n p = inl (notices_are _ e ∙ p)
-  goes (ends_so v k) n p = inr (inr (inl (v, k)))
-  goes (waits_for v r e) n p = inl (notices_are _ e ∙ p)
-  goes (empties k e) n p = inr (inr (inr k))
-  goes (tells k e) n p = inr (inl k)
+  goes : Way s c h → (n : Status) → (mail_of s h).notice ≡ Some n → NoticeAfter s c h n
+  goes (stays e) n p = kept (notices_are _ e ∙ p)
+  goes (ends_so v k) n p = replaced v k
+  goes (waits_for v r e) n p = kept (notices_are _ e ∙ p)
+  goes (empties k e) n p = notice_dropped k
+  goes (tells k e) n p = handed_over k
 
   -- What frees the way is another's call.
   freed : (w : Want) → (mail_of s h).wait ≡ Some w → another (stands w) h (next s c).hosts ≡ false → Noticed s (next s c) h w
@@ -231,10 +240,15 @@ module _ (s : State) (c : Call) (h : ℕ) (i : Sound s) (eight : length s.hosts 
   told : h < 8 → c ≡ notice h → (answer s c ≡ noticed (mail_of s h).notice) × ((mail_of (next s c) h).notice ≡ None)
   told l e = subst (λ d. (answer s d ≡ noticed (mail_of s h).notice) × ((mail_of (next s d) h).notice ≡ None)) (sym e) (notice_told_by s h l, notices_are _ (own_mail s (notice h) i eight l))
 
+  emptied : Clears s c h → mail_of (next s c) h ≡ silent
+  emptied k =
+      let d = clear_open s h (rw k.call at k.is_done) in
+      subst (λ e. mail_of (next s e) h ≡ silent) (sym k.call) (own_mail s (clear h) i eight (ltb-true h 8 d.0) ∙ ap (λ b. cond b (mail_of s h) silent) d.1)
+
   law : MailLaw s c h
   law =
       let k = way s c h i eight in
-      record { begins = begins k; waits = waits; ends = ends k; freed = freed; comes = comes k; goes = goes k; told = told }
+      record { begins = begins k; waits = waits; ends = ends k; freed = freed; comes = comes k; goes = goes k; told = told; cleared = emptied }
 
 -- ---- Over runs.
 

@@ -17,7 +17,8 @@ abbrev pub fault_here : Result (Unit {0}) StoreFault → ℕ → ℕ → List Ho
 fault_here (Ok x) u a = []
 fault_here (Err f) u a = record { fault = record { store = f }; unit = u; address = a } ∷ []
 
--- The faults that the store answers with at the blocks of a span of unit u, in order. The span begins at block b of the store, address a of the unit.
+-- The faults that the store answers with at the blocks of a span of unit u, in order. The span begins at block b of the store, and at address a
+-- of the unit.
 abbrev pub faults_in : (ℕ → Option Block → Result (Unit {0}) StoreFault) → ℕ → ℕ → ℕ → List (Option Block) → List HostFault
 faults_in asked u b a [] = []
 faults_in asked u b a (o ∷ os) = fault_here (asked b o) u a ++ faults_in asked u (suc b) (suc a) os
@@ -44,8 +45,8 @@ abbrev pub is_clear : Call → Bool
 is_clear (clear h) = true
 is_clear other = false
 
--- What a host's segments have met after its call c, by what c is answered: an accepted message and a clear that is done begin anew, and a segment that is
--- moved adds what it meets, `here`.
+-- What a host's segments have met after its call c, by what c is answered: an accepted message and a clear that is done begin anew, and a
+-- segment that is moved adds what it meets, `here`.
 abbrev pub met_after : Call → List HostFault → Answer → List HostFault → List HostFault
 met_after c here (accepted k) met = []
 met_after c here (moved k buffer) met = met ++ here

@@ -57,7 +57,8 @@ pub data Seen : Type 0 where
   hands_back : Status → List ℕ → Seen
   answers_else : Seen
 
--- An answer as it is seen: a refusal by its status, and by the buffer if the call had one; a call that is done, a notice and a fault are not told apart.
+-- An answer as it is seen: a refusal by its status, and by the buffer that it hands back with a ticket; a call that is done, a notice and a fault are
+-- not told apart.
 abbrev pub seen : Answer → Seen
 seen (accepted k) = accepts (phase_on k)
 seen (moved k buffer) = moves (phase_on k) buffer
