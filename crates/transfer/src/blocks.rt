@@ -71,6 +71,7 @@ impl Span {
         ensures fault { first.new ≡ first_fault first.old (met_by (converted (read_at (self.now.first + k) (slice_get (S.blocks store.old) (self.now.first + k)))) self.now.transaction.unit (self.now.transaction.at + k)) }
         ensures part { part.new ≡ buffer_at zeros (slice_get (S.blocks store.old) (self.now.first + k)) }
         ensures same { S.blocks store.new ≡ S.blocks store.old }
+        ensures base { S.base_of store.new ≡ S.base_of store.old }
     {
         if let Err(refusal) = store.read(self.first + k, part) {
             self.miss(k, refusal, part, first);
@@ -83,6 +84,7 @@ impl Span {
         ensures fault { result ≡ read_fault self.now.transaction.unit self.now.first self.now.transaction.at (in_span self.now (S.blocks store.old)) }
         ensures buffer { buffer.new ≡ read_bytes (in_span self.now (S.blocks store.old)) ++ drop (256 * segment_of self.now.transaction) buffer.old }
         ensures same { S.blocks store.new ≡ S.blocks store.old }
+        ensures base { S.base_of store.new ≡ S.base_of store.old }
     {
         let mut fault = None;
         for k in 0..self.count() {
@@ -99,6 +101,7 @@ impl Span {
     pub(super) fn verify<S: Store>(&self, store: &mut S) -> Option<HostFault>
         ensures fault { result ≡ read_fault self.now.transaction.unit self.now.first self.now.transaction.at (in_span self.now (S.blocks store.old)) }
         ensures same { S.blocks store.new ≡ S.blocks store.old }
+        ensures base { S.base_of store.new ≡ S.base_of store.old }
     {
         // One loop for this and `read` would ask for each block where its bytes go, and be no shorter.
         let mut scratch = [0u8; BLOCK_BYTES];
@@ -117,6 +120,7 @@ impl Span {
         requires whole { length part.now ≡ 256 }
         ensures fault { result_err result ≡ met_by (converted (write_at (self.now.first + k) (slice_get (S.blocks store.old) (self.now.first + k)))) self.now.transaction.unit (self.now.transaction.at + k) }
         ensures after { S.blocks store.new ≡ written (S.blocks store.old) (self.now.first + k) part.now }
+        ensures base { S.base_of store.new ≡ S.base_of store.old }
     {
         store
             .write(self.first + k, part)
@@ -129,6 +133,7 @@ impl Span {
         ensures tried { result.0 ≡ write_tried self.now.first (in_span self.now (S.blocks store.old)) }
         ensures fault { result.1 ≡ write_fault self.now.transaction.unit self.now.first self.now.transaction.at (in_span self.now (S.blocks store.old)) }
         ensures after { S.blocks store.new ≡ laid (S.blocks store.old) self.now.first (put self.now.first (in_span self.now (S.blocks store.old)) buffer.now) }
+        ensures base { S.base_of store.new ≡ S.base_of store.old }
     {
         for k in 0..self.count() {
             let from = BLOCK_BYTES * k as usize;

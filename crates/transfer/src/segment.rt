@@ -48,6 +48,7 @@ fn move_blocks<S: Store>(store: &mut S, blocks: Span, buffer: &mut [u8]) -> Prog
     ensures progress { result ≡ (moved_by_command blocks.transaction.command blocks.transaction blocks.first (in_span blocks (S.blocks store.old)) buffer.old).progress }
     ensures buffer { buffer.new ≡ (moved_by_command blocks.transaction.command blocks.transaction blocks.first (in_span blocks (S.blocks store.old)) buffer.old).buffer }
     ensures after { S.blocks store.new ≡ laid (S.blocks store.old) blocks.first (moved_by_command blocks.transaction.command blocks.transaction blocks.first (in_span blocks (S.blocks store.old)) buffer.old).put }
+    ensures base { S.base_of store.new ≡ S.base_of store.old }
 {
     let transaction = blocks.transaction;
     match transaction.command {
@@ -77,6 +78,7 @@ fn move_in_unit<S: Store>(
     ensures progress { result ≡ (moved_over map.now (S.blocks store.old) transaction buffer.old).progress }
     ensures buffer { buffer.new ≡ (moved_over map.now (S.blocks store.old) transaction buffer.old).buffer }
     ensures after { S.blocks store.new ≡ laid (S.blocks store.old) (start_of map.now (Some transaction)) (moved_over map.now (S.blocks store.old) transaction buffer.old).put }
+    ensures base { S.base_of store.new ≡ S.base_of store.old }
 {
     match map.block(transaction.unit, transaction.at) {
         Some(first) => move_blocks(store, Span { transaction, first }, buffer),
@@ -122,6 +124,7 @@ pub fn execute_segment<S: Store>(
     ensures after { S.blocks store.new ≡ blocks_by (refusal_of map.now transaction (message_of map.now host transaction) buffer.old) (executed_over map.now (S.blocks store.old) host transaction buffer.old) (S.blocks store.old) (start_of map.now (Some transaction)) }
     ensures law { SegmentLaw result transaction (start_of map.now (Some transaction)) (segment_of transaction) (S.blocks store.old) (S.blocks store.new) buffer.old buffer.new }
     ensures describing { DescribeLaw result map.now host transaction (S.blocks store.old) (S.blocks store.new) buffer.old buffer.new }
+    ensures base { S.base_of store.new ≡ S.base_of store.old }
 {
     admit(map, transaction, buffer)?;
     if transaction.describes() {

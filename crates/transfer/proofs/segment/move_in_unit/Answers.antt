@@ -1,4 +1,4 @@
-use Rattle.std.proofs.Common.{◌≡◌, ◌+◌, sym, ap, ◌∙◌}
+use Rattle.std.proofs.Common.{◌≡◌, ◌+◌, refl, sym, ap, ◌∙◌}
 use Rattle.flex.specs.Maps.{unit_at}
 use Rattle.host.specs.Progress.{segment_of}
 use Rattle.transfer.specs.Segments.{first_of, span, laid, untried, Moved, moved_by_command}
@@ -18,4 +18,5 @@ returns-in-None g c =
       progress = c.not_tried.ensures ∙ sym (ap (λ (m : Moved). m.progress) is);
       buffer = sym (ap (λ (m : Moved). m.buffer) is);
       after = sym (ap (λ (m : Moved). laid bs b m.put) is);
+      base = refl;
     }

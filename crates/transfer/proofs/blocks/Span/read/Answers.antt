@@ -20,4 +20,5 @@ loop-k-preserved g c =
       long_more bs x.first k ys here whole long,
       read_more bs x.first k ys here whole long c.loop-k.buffer c.args.buffer.now c.loop-k.invariant.2,
       cc,
+      c.read_one.ensures.base ∙ c.loop-k.invariant.4,
     )

@@ -9,3 +9,4 @@ invariant-loop-k g l =
     × (length (read_bytes (span bs l.self.first l.k)) ≡ 256 * l.k)
     × (l.buffer ≡ read_bytes (span bs l.self.first l.k) ++ drop (256 * l.k) l.initial.buffer)
     × (l.fault ≡ read_fault l.self.transaction.unit l.self.first l.self.transaction.at (span bs l.self.first l.k))
+    × (g.S.Store.base_of l.store ≡ g.S.Store.base_of l.initial.store)

@@ -8,3 +8,4 @@ invariant-loop-k g l =
     (g.S.Store.blocks l.store ≡ bs)
     × (l.fault ≡ read_fault l.self.transaction.unit l.self.first l.self.transaction.at (span bs l.self.first l.k))
     × (length l.scratch ≡ 256)
+    × (g.S.Store.base_of l.store ≡ g.S.Store.base_of l.initial.store)
