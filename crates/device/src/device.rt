@@ -38,7 +38,8 @@ pub struct Device<S> {
 impl<S: Store> Device<S> {
     /// Takes a command message of a host, and hands out a ticket for the transaction that it opens.
     pub fn command(&mut self, host: u8, bytes: &[u8]) -> Result<Ticket, Status>
-        ensures { (command_answer result, state S.blocks self.new) ≡ after (state S.blocks self.old) (command host bytes.now) }
+        ensures is { (command_answer result, state S.blocks self.new) ≡ after (state S.blocks self.old) (command host bytes.now) }
+        ensures base { S.base_of self.new.store ≡ S.base_of self.old.store }
     {
         let caller = self.controller.caller(host)?;
         let reaches = self.controller.map.end() <= self.store.size();
@@ -47,7 +48,8 @@ impl<S: Store> Device<S> {
 
     /// Ends a host's interlock and restores its values; its locks, notice, wait and fault are dropped.
     pub fn clear(&mut self, host: u8) -> Result<(), Status>
-        ensures { (clear_answer result, state S.blocks self.new) ≡ after (state S.blocks self.old) (clear host) }
+        ensures is { (clear_answer result, state S.blocks self.new) ≡ after (state S.blocks self.old) (clear host) }
+        ensures base { S.base_of self.new.store ≡ S.base_of self.old.store }
     {
         let caller = self.controller.caller(host)?;
         if self.controller.host(caller).transaction.is_some() {
@@ -60,7 +62,8 @@ impl<S: Store> Device<S> {
 
     /// Hands a host's notice over and removes it, or says none.
     pub fn notice(&mut self, host: u8) -> Result<Option<Status>, Status>
-        ensures { (notice_answer result, state S.blocks self.new) ≡ after (state S.blocks self.old) (notice host) }
+        ensures is { (notice_answer result, state S.blocks self.new) ≡ after (state S.blocks self.old) (notice host) }
+        ensures base { S.base_of self.new.store ≡ S.base_of self.old.store }
     {
         let caller = self.controller.caller(host)?;
         Ok(self.controller.take_notice(caller))
@@ -68,7 +71,8 @@ impl<S: Store> Device<S> {
 
     /// The first store fault since a host's latest accepted message or clear, or none.
     pub fn fault(&mut self, host: u8) -> Result<Option<HostFault>, Status>
-        ensures { (fault_answer result, state S.blocks self.new) ≡ after (state S.blocks self.old) (fault host) }
+        ensures is { (fault_answer result, state S.blocks self.new) ≡ after (state S.blocks self.old) (fault host) }
+        ensures base { S.base_of self.new.store ≡ S.base_of self.old.store }
     {
         let caller = self.controller.caller(host)?;
         self.controller.judge_waits();
@@ -81,7 +85,8 @@ impl<S: Store> Device<S> {
         ticket: ExecutionTicket,
         buffer: &mut [u8],
     ) -> Result<Ticket, Returned<ExecutionTicket>>
-        ensures { (segment_answer result buffer.new, state S.blocks self.new) ≡ after (state S.blocks self.old) (segment ticket buffer.old) }
+        ensures is { (segment_answer result buffer.new, state S.blocks self.new) ≡ after (state S.blocks self.old) (segment ticket buffer.old) }
+        ensures base { S.base_of self.new.store ≡ S.base_of self.old.store }
     {
         let Some((caller, transaction)) = self.controller.fitting(ticket.pass()) else {
             return Err(Returned {
@@ -109,7 +114,8 @@ impl<S: Store> Device<S> {
 
     /// Ends a transaction before its report. Blocks that were moved stay.
     pub fn cancel(&mut self, ticket: Ticket) -> Result<(), Returned<Ticket>>
-        ensures { (cancel_answer result, state S.blocks self.new) ≡ after (state S.blocks self.old) (cancel ticket) }
+        ensures is { (cancel_answer result, state S.blocks self.new) ≡ after (state S.blocks self.old) (cancel ticket) }
+        ensures base { S.base_of self.new.store ≡ S.base_of self.old.store }
     {
         let Some((caller, _)) = self.controller.fitting(ticket.pass()) else {
             return Err(Returned {
@@ -128,7 +134,8 @@ impl<S: Store> Device<S> {
         ticket: ReportTicket,
         buffer: &mut [u8],
     ) -> Result<(), Returned<ReportTicket>>
-        ensures { (report_answer result buffer.new, state S.blocks self.new) ≡ after (state S.blocks self.old) (report ticket buffer.old) }
+        ensures is { (report_answer result buffer.new, state S.blocks self.new) ≡ after (state S.blocks self.old) (report ticket buffer.old) }
+        ensures base { S.base_of self.new.store ≡ S.base_of self.old.store }
     {
         let Some((caller, open)) = self.controller.fitting(ticket.pass()) else {
             return Err(Returned {
@@ -184,6 +191,7 @@ impl<S: Store> Device<S> {
         ensures same { S.blocks result ≡ S.blocks self.store }
         ensures settled { S.settled result }
         ensures holds { S.stored result ≡ S.blocks self.store }
+        ensures base { S.base_of result ≡ S.base_of self.store }
     {
         let Device {
             controller: _,
@@ -230,6 +238,7 @@ pub fn power_on<S: Store>(number: u32, map: UnitMap, store: S) -> Device<S>
     ensures sampled_by_device { SampledByDevice }
     ensures needed { Needed }
     ensures table { Table }
+    ensures base { S.base_of result.store ≡ S.base_of store }
 {
     let controller = Controller {
         number,

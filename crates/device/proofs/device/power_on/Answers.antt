@@ -1,4 +1,4 @@
-use Rattle.std.proofs.Common.{ℕ, List, replicate, sym, ap, ◌∙◌, subst}
+use Rattle.std.proofs.Common.{ℕ, List, replicate, sym, ap, ◌∙◌, subst, refl}
 use Rattle.store.specs.Blocks.{Block}
 use Rattle.flex.specs.declared.unit_map.UnitMap.{UnitMap}
 use Rattle.host.specs.declared.mail.Mail.{Mail}
@@ -35,6 +35,7 @@ returns g c =
     let made = ap (λ x. built n map bs x c.powered.result) c.at_start.ensures ∙ ap (built n map bs at_start) c.powered.ensures in
     record {
       made = made;
+      base = refl;
       isolation = subst IsolationFrom (sym made) (isolation n map bs);
       apartness = subst ApartnessFrom (sym made) (apartness n map bs);
       exclusion = subst ExclusionFrom (sym made) (exclusion n map bs);

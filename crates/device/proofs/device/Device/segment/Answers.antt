@@ -7,8 +7,8 @@ use Rattle.device.specs.Device.{state_of}
 use Rattle.device.proofs.Moving.{segment_moved_on, segment_refused}
 use Rattle.device.proofs.device.Device.segment.Goals as goal
 
-pub returns-in-Err : goal.returns-in-Err
-returns-in-Err g c =
+pub returns-in-Err-clause-is : goal.returns-in-Err-clause-is
+returns-in-Err-clause-is g c =
     let d = c.args.self.now in
     let found = c.in-Some.ensures in
     let m = c.execute_segment in
@@ -17,8 +17,8 @@ returns-in-Err g c =
     ∙ segment_refused d.controller c.fitting.new.self found.left (g.S.Store.blocks d.store) c.args.ticket c.pass.result c.pass.ensures c.args.buffer.now c.in-Some.transaction c.in-Some.caller.number found.found
     c.in-Err.status m.new.buffer (g.S.Store.blocks m.new.store) by.progress by.buffer by.after
 
-pub returns-in-Ok : goal.returns-in-Ok
-returns-in-Ok g c =
+pub returns-in-Ok-clause-is : goal.returns-in-Ok-clause-is
+returns-in-Ok-clause-is g c =
     let d = c.args.self.now in
     let found = c.in-Some.ensures in
     let m = c.execute_segment in
