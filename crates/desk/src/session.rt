@@ -24,7 +24,8 @@ impl<S: Store> Session<S> {
 
     /// A device whose hosts hold no ticket here.
     pub fn new(device: Device<S>) -> Session<S>
-        ensures { world S.blocks result ≡ record { state = state S.blocks device; desk = empty_desk } }
+        ensures is { world S.blocks result ≡ record { state = state S.blocks device; desk = empty_desk } }
+        ensures base { S.base_of result.device.store ≡ S.base_of device.store }
     {
         Session {
             device,
@@ -37,6 +38,7 @@ impl<S: Store> Session<S> {
         ensures same { S.blocks result ≡ (at_end (world S.blocks self)).blocks }
         ensures settled { S.settled result }
         ensures holds { S.stored result ≡ (at_end (world S.blocks self)).blocks }
+        ensures base { S.base_of result ≡ S.base_of self.device.store }
     {
         for host in 0..HOSTS as u8 {
             self.cancel(host);
@@ -48,7 +50,8 @@ impl<S: Store> Session<S> {
 
     /// Sends a host's command message. A ticket that it is given is kept for it.
     pub fn command(&mut self, host: u8, message: &[u8]) -> Answer
-        ensures { (result, world S.blocks self.new) ≡ by_call (world S.blocks self.old) host (calls.command host message.now) }
+        ensures is { (result, world S.blocks self.new) ≡ by_call (world S.blocks self.old) host (calls.command host message.now) }
+        ensures base { S.base_of self.new.device.store ≡ S.base_of self.old.device.store }
     {
         match self.device.command(host, message) {
             Ok(ticket) => {
@@ -62,7 +65,8 @@ impl<S: Store> Session<S> {
 
     /// Moves the next segment with the execution ticket that a host has. The ticket that comes back is kept for it.
     pub fn segment(&mut self, host: u8, buffer: &mut [u8]) -> Answer
-        ensures { comes_to result buffer.new (world S.blocks self.new) ≡ by_segment (world S.blocks self.old) host (held self.old.desk host) buffer.old }
+        ensures is { comes_to result buffer.new (world S.blocks self.new) ≡ by_segment (world S.blocks self.old) host (held self.old.desk host) buffer.old }
+        ensures base { S.base_of self.new.device.store ≡ S.base_of self.old.device.store }
     {
         match self.desk.take(host) {
             Some(Ticket::Execution(ticket)) => match self.device.segment(ticket, buffer) {
@@ -86,7 +90,8 @@ impl<S: Store> Session<S> {
 
     /// Asks for the report with the report ticket that a host has.
     pub fn report(&mut self, host: u8, buffer: &mut [u8]) -> Answer
-        ensures { comes_to result buffer.new (world S.blocks self.new) ≡ by_report (world S.blocks self.old) host (held self.old.desk host) buffer.old }
+        ensures is { comes_to result buffer.new (world S.blocks self.new) ≡ by_report (world S.blocks self.old) host (held self.old.desk host) buffer.old }
+        ensures base { S.base_of self.new.device.store ≡ S.base_of self.old.device.store }
     {
         match self.desk.take(host) {
             Some(Ticket::Report(ticket)) => match self.device.report(ticket, buffer) {
@@ -106,7 +111,8 @@ impl<S: Store> Session<S> {
 
     /// Gives back the ticket that a host has. It is the host's own, so the device accepts it.
     pub fn cancel(&mut self, host: u8) -> Answer
-        ensures { (result, world S.blocks self.new) ≡ by_cancel (world S.blocks self.old) host (held self.old.desk host) }
+        ensures is { (result, world S.blocks self.new) ≡ by_cancel (world S.blocks self.old) host (held self.old.desk host) }
+        ensures base { S.base_of self.new.device.store ≡ S.base_of self.old.device.store }
     {
         let Some(ticket) = self.desk.take(host) else {
             return Answer::NoTicket;
@@ -119,7 +125,8 @@ impl<S: Store> Session<S> {
 
     /// Clears a host.
     pub fn clear(&mut self, host: u8) -> Answer
-        ensures { (result, world S.blocks self.new) ≡ by_call (world S.blocks self.old) host (calls.clear host) }
+        ensures is { (result, world S.blocks self.new) ≡ by_call (world S.blocks self.old) host (calls.clear host) }
+        ensures base { S.base_of self.new.device.store ≡ S.base_of self.old.device.store }
     {
         match self.device.clear(host) {
             Ok(()) => Answer::Done,
@@ -129,7 +136,8 @@ impl<S: Store> Session<S> {
 
     /// Takes a host's notice; without one the answer is `Done`.
     pub fn notice(&mut self, host: u8) -> Answer
-        ensures { (result, world S.blocks self.new) ≡ by_call (world S.blocks self.old) host (calls.notice host) }
+        ensures is { (result, world S.blocks self.new) ≡ by_call (world S.blocks self.old) host (calls.notice host) }
+        ensures base { S.base_of self.new.device.store ≡ S.base_of self.old.device.store }
     {
         match self.device.notice(host) {
             Ok(Some(status)) => Answer::Notice(status),
@@ -140,7 +148,8 @@ impl<S: Store> Session<S> {
 
     /// Looks at a host's fault; without one the answer is `Done`.
     pub fn fault(&mut self, host: u8) -> Answer
-        ensures { (result, world S.blocks self.new) ≡ by_call (world S.blocks self.old) host (calls.fault host) }
+        ensures is { (result, world S.blocks self.new) ≡ by_call (world S.blocks self.old) host (calls.fault host) }
+        ensures base { S.base_of self.new.device.store ≡ S.base_of self.old.device.store }
     {
         match self.device.fault(host) {
             Ok(Some(fault)) => Answer::Fault(fault),

@@ -1,5 +1,5 @@
 -- What memory and map tell of the blocks, and what a change of one bit leaves of the spare marks.
-use Rattle.std.proofs.Common.{◌≡◌, ℕ, ◌-◌, ◌*◌, ◌/◌, ◌<◌, Bool, true, false, cond, List, length, map, Some, None, refl, sym, ap, ◌∙◌, inl, inr, arith}
+use Rattle.std.proofs.Common.{◌≡◌, ℕ, ◌-◌, ◌*◌, ◌/◌, ◌<◌, Bool, true, false, cond, List, length, map, Some, None, refl, sym, ap, subst, ◌∙◌, inl, inr, arith}
 use Rattle.std.specs.List.{slice_get, range_with_len}
 use Rattle.std.specs.Option.{unwrap_or}
 use Rattle.std.proofs.lemmas.Bool.{cases_lt, cond_both}
@@ -56,3 +56,6 @@ module _ (bytes damage : List ℕ) (p : Protection) where
       cond_both (flat_fits (length bytes) (length damage)) None (Some refusals.Lengths) (λ o. flat_blocks bytes damage p ≡ unless_refused o (flat_blocks bytes damage p))
       (λ _. refl)
       (λ e. ap (λ t. blocks_by (unwrap_or (cond t (Some (length bytes / 256)) None) 0) (flat_block bytes damage p)) e)
+
+  pub offered_holds : FlatHolds bytes damage (flat_offered bytes damage p)
+  offered_holds = subst (FlatHolds bytes damage) offered_flat flat_holds

@@ -2,6 +2,7 @@
 use Rattle.std.specs.Prelude.{◌≡◌, ℕ, ◌-◌, ◌*◌, ◌/◌, ◌%◌, ◌^◌, Bool, true, false, cond, List, length, map, Some, None, Option, ◌==◌, ◌≢◌, bit_and, bit_or, slice_index, slice_set}
 use Rattle.std.specs.List.{slice_get, range_with_len}
 use Rattle.store.specs.declared.fault.Protection.{Protection}
+use Rattle.store.specs.declared.fault.Protection.TheVariants as protections
 use Rattle.store.specs.Blocks.{Block, sound, damaged}
 use Rattle.flat.specs.declared.flat.FlatImage.{FlatImage}
 use Rattle.image.specs.declared.refusal.Refusal.{Refusal}
@@ -67,6 +68,12 @@ pub record FlatHolds (bytes damage : List ℕ) (blocks : List Block) : Type 0 wh
   pub count : length blocks ≡ flat_size (length bytes) (length damage)
   pub whole : (b : ℕ) (held : List ℕ) (p : Protection) → slice_get blocks b ≡ Some (record { contents = sound held; protection = p }) → (part bytes (256 * b) 256 ≡ held) × (marked damage b ≡ false)
   pub lost : (b : ℕ) (p : Protection) → slice_get blocks b ≡ Some (record { contents = damaged; protection = p }) → marked damage b ≡ true
+
+-- What calls leave of memory and map: their lengths and the spare marks; and what the blocks are then, byte by byte. Of a block that stays damaged the bytes are not told.
+pub record FlatLeft (bytes damage bytes-after damage-after : List ℕ) : Type 0 where
+  pub long : (length bytes-after ≡ length bytes) × (length damage-after ≡ length damage)
+  pub spare : spare_marks (length bytes-after) damage-after ≡ spare_marks (length bytes) damage
+  pub holds : FlatHolds bytes-after damage-after (flat_offered bytes-after damage-after protections.Open)
 
 -- Only the bit of block b is changed in the map, and it now reads so; spare bits stay too.
 pub record OnlyMark (before : List ℕ) (b : ℕ) (mark : Bool) (after : List ℕ) : Type 0 where

@@ -1,16 +1,17 @@
 -- What memory tells of the blocks, and what a change of one block's record leaves of the rest.
-use Rattle.std.proofs.Common.{◌≡◌, ℕ, ◌+◌, ◌*◌, ◌≤◌, Bool, true, false, cond, not, eqb, List, ◌++◌, length, get_or, Some, None, refl, sym, ap, ◌∙◌, inl, inr, arith}
+use Rattle.std.proofs.Common.{◌≡◌, ℕ, zero, suc, ◌+◌, ◌*◌, ◌≤◌, Bool, true, false, cond, not, eqb, List, [], ◌++◌, length, get_or, Some, None, Option, refl, sym, ap, ◌∙◌, inl, inr, arith}
 use Rattle.std.specs.List.{slice_get}
 use Rattle.std.proofs.lemmas.Bool.{cases_eq, cases_lt, eqb-true, eq-eqb}
 use Rattle.store.specs.declared.fault.Protection.{Protection}
 use Rattle.store.specs.Blocks.{Block, sound, damaged}
 use Rattle.image.specs.Memory.{part}
-use Rattle.image.specs.Images.{block_of}
+use Rattle.image.specs.declared.refusal.Refusal.{Refusal}
+use Rattle.image.specs.Images.{block_of, unless_refused}
 use Rattle.image.specs.Lawful.{nth_numbered, nth_numbered_past}
 use Rattle.image.proofs.Numbered.{same_made}
 use Rattle.image.proofs.Parts.{part_part}
 use Rattle.raw.specs.Lengths.{raw_size}
-use Rattle.raw.specs.Raw.{raw_record, raw_block, raw_blocks, is_spare, record_rest, records_rest, RawHolds}
+use Rattle.raw.specs.Raw.{raw_record, raw_block, raw_blocks, raw_offered, raw_refusal, is_spare, record_rest, records_rest, RawHolds}
 
 -- memory in which, of one record, only header byte 0 and the data are changed
 module _ (before after spares : List ℕ) (r k : ℕ)
@@ -35,13 +36,17 @@ module _ (before after spares : List ℕ) (r k : ℕ)
 contents_by : (mark : Bool) (xs : List ℕ) (p : Protection) (x : Block) → Some (block_of mark xs p) ≡ Some x → cond mark damaged (sound xs) ≡ x.contents
 contents_by mark xs p x e = let f : block_of mark xs p ≡ x = cc in ap (λ (k : Block). k.contents) f
 
-sound_by : (flag : ℕ) (xs held : List ℕ) (zero : Bool) → eqb flag 0 ≡ zero → cond (not zero) damaged (sound xs) ≡ sound held → (xs ≡ held) × (flag ≡ 0)
+sound_by : (flag : ℕ) (xs held : List ℕ) (none : Bool) → eqb flag 0 ≡ none → cond (not none) damaged (sound xs) ≡ sound held → (xs ≡ held) × (flag ≡ 0)
 sound_by flag xs held true z e = (cc, eqb-true flag 0 z)
 sound_by flag xs held false z e = absurd cc
 
-damaged_by : (flag : ℕ) (xs : List ℕ) (zero : Bool) → eqb flag 0 ≡ zero → cond (not zero) damaged (sound xs) ≡ damaged → flag ≡ 0 → ⊥
+damaged_by : (flag : ℕ) (xs : List ℕ) (none : Bool) → eqb flag 0 ≡ none → cond (not none) damaged (sound xs) ≡ damaged → flag ≡ 0 → ⊥
 damaged_by flag xs true z e is = absurd cc
 damaged_by flag xs false z e is = let f : true ≡ false = sym (eq-eqb flag 0 is) ∙ z in absurd cc
+
+none_there : (b : ℕ) (x : Block) → slice_get [] b ≡ Some x → ⊥
+none_there zero x e = absurd cc
+none_there (suc b) x e = absurd cc
 
 module _ (bytes spares : List ℕ) (r : ℕ) (p : Protection) where
   abbrev flag : ℕ → ℕ
@@ -61,3 +66,14 @@ module _ (bytes spares : List ℕ) (r : ℕ) (p : Protection) where
     whole = λ b held q e. sound_by (flag b) (content b) held (eqb (flag b) 0) refl (made_here b (record { contents = sound held; protection = q }) e);
     lost = λ b q e is. damaged_by (flag b) (content b) (eqb (flag b) 0) refl (made_here b (record { contents = damaged; protection = q }) e) is;
   }
+
+  -- memory that is refused has no blocks
+  offered_by : (refusal : Option Refusal) → RawHolds bytes spares r (unless_refused refusal (raw_blocks bytes spares r p))
+  offered_by None = raw_holds
+  offered_by (Some refusal) = record {
+    whole = λ b held q e. absurd (none_there b (record { contents = sound held; protection = q }) e);
+    lost = λ b q e is. none_there b (record { contents = damaged; protection = q }) e;
+  }
+
+  pub offered_holds : RawHolds bytes spares r (raw_offered bytes spares r p)
+  offered_holds = offered_by (raw_refusal (length bytes) spares r)

@@ -2,6 +2,7 @@
 use Rattle.std.specs.Prelude.{◌≡◌, ℕ, ◌+◌, ◌-◌, ◌*◌, ◌/◌, ◌%◌, ◌<◌, ◌≤◌, Bool, cond, not, List, ◌++◌, length, map, Some, None, Option, ◌==◌, ◌≢◌, nat_le, nat_lt, position, slice_index, slice_index_or, slice_set}
 use Rattle.std.specs.List.{slice_get, range_with_len}
 use Rattle.store.specs.declared.fault.Protection.{Protection}
+use Rattle.store.specs.declared.fault.Protection.TheVariants as protections
 use Rattle.store.specs.Blocks.{Block, sound, damaged}
 use Rattle.raw.specs.declared.raw.RawImage.{RawImage}
 use Rattle.image.specs.declared.refusal.Refusal.{Refusal}
@@ -96,6 +97,12 @@ raw_base image = record {
 pub record RawHolds (bytes spares : List ℕ) (records : ℕ) (blocks : List Block) : Type 0 where
   pub whole : (b : ℕ) (held : List ℕ) (p : Protection) → slice_get blocks b ≡ Some (record { contents = sound held; protection = p }) → (part bytes (276 * raw_record spares records b + 6) 256 ≡ held) × (slice_index bytes (276 * raw_record spares records b) ≡ 0)
   pub lost : (b : ℕ) (p : Protection) → slice_get blocks b ≡ Some (record { contents = damaged; protection = p }) → slice_index bytes (276 * raw_record spares records b) ≢ 0
+
+-- What calls leave of the memory: its length, and what of the records no block tells; and what the blocks are then, byte by byte. Of a block that stays damaged neither data nor header byte 0 is told, but that this is not 0.
+pub record RawLeft (bytes spares : List ℕ) (records : ℕ) (bytes-after : List ℕ) : Type 0 where
+  pub long : length bytes-after ≡ length bytes
+  pub rest : records_rest bytes-after spares records ≡ records_rest bytes spares records
+  pub holds : RawHolds bytes-after spares records (raw_offered bytes-after spares records protections.Open)
 
 -- Nothing that an image of this kind holds is changed.
 pub record SameRaw (before after : RawImage) : Type 0 where

@@ -11,7 +11,7 @@ loop-host-preserved g c =
     let before = c.loop-host in
     let w = world means before.self in
     let v = world means c.cancel.new.self in
-    let is = ap (λ (p : Answer × World). p.1) c.cancel.ensures in
+    let is = ap (λ (p : Answer × World). p.1) c.cancel.ensures.is in
     record {
       so_far = one_more w v (world means c.args.self) before.host c.loop-host-test.true is before.invariant.so_far;
       none = λ h below. ap (λ (u : World). held u.desk h) is ∙ gave_back w before.host h (before.invariant.none h) below;

@@ -14,7 +14,7 @@ invariant_of-self g c =
     let was = c.args.self.now in
     record {
       fits = exchanged_own (state blocks was.device) (state blocks c.segment.new.self) c.args.host c.in-Some-Execution.ticket c.args.buffer.now c.segment.new.buffer c.in-Ok.ticket was.desk c.take.new.self c.put.new.self was.fits
-          (rw c.in-Some-Execution.field-0-is at c.in-Some-Execution.ensures.value) c.take.ensures.after c.in-Ok.ensures c.put.ensures;
+          (rw c.in-Some-Execution.field-0-is at c.in-Some-Execution.ensures.value) c.take.ensures.after c.in-Ok.ensures.is c.put.ensures;
     }
 
 pub invariant_of-self-in-Err : goal.invariant_of-self-in-Err
@@ -25,7 +25,7 @@ invariant_of-self-in-Err g c =
     let r = c.in-Err.field-0 in
     record {
       fits = returned_own (state blocks was.device) (state blocks c.segment.new.self) (calls.segment k c.args.buffer.now) r.status c.segment.new.buffer c.args.host (tickets.Execution k) (tickets.Execution r.ticket) was.desk c.take.new.self c.put-in-Err.new.self was.fits
-          (rw c.in-Some-Execution.field-0-is at c.in-Some-Execution.ensures.value) refl c.take.ensures.after c.in-Err.ensures c.put-in-Err.ensures;
+          (rw c.in-Some-Execution.field-0-is at c.in-Some-Execution.ensures.value) refl c.take.ensures.after c.in-Err.ensures.is c.put-in-Err.ensures;
     }
 
 pub invariant_of-self-in-Some-Report : goal.invariant_of-self-in-Some-Report
@@ -41,20 +41,20 @@ invariant_of-self-in-None g c =
     let was = c.args.self.now in
     record { fits = none_own (state g.S.Store.blocks was.device) c.args.host was.desk c.take.new.self was.fits c.in-None.ensures.value c.take.ensures.after }
 
-pub returns-in-Ok : goal.returns-in-Ok
-returns-in-Ok g c =
+pub returns-in-Ok-clause-is : goal.returns-in-Ok-clause-is
+returns-in-Ok-clause-is g c =
     let means = g.S.Store.blocks in
     let s = c.segment in
     segment_so (world means c.args.self.now) c.args.host c.args.buffer.now (calls.moved c.in-Ok.ticket s.new.buffer) (state means s.new.self) c.take.new.self
     c.handed-answer.result (record { state = state means s.new.self; desk = c.put.new.self }) c.in-Some-Execution.ticket (rw c.in-Some-Execution.field-0-is at c.in-Some-Execution.ensures.value)
-    c.take.ensures.after c.in-Ok.ensures c.handed-answer.ensures (world_so _ _ _ _ refl c.put.ensures)
+    c.take.ensures.after c.in-Ok.ensures.is c.handed-answer.ensures (world_so _ _ _ _ refl c.put.ensures)
 
-pub returns-in-Err : goal.returns-in-Err
-returns-in-Err g c =
+pub returns-in-Err-clause-is : goal.returns-in-Err-clause-is
+returns-in-Err-clause-is g c =
     let means = g.S.Store.blocks in
     let s = c.segment in
     let r = c.in-Err.field-0 in
     segment_so (world means c.args.self.now) c.args.host c.args.buffer.now (calls.returned r.status (tickets.Execution r.ticket) s.new.buffer) (state means s.new.self) c.take.new.self
     (answers.Refused r.status) (record { state = state means s.new.self; desk = c.put-in-Err.new.self }) c.in-Some-Execution.ticket
     (rw c.in-Some-Execution.field-0-is at c.in-Some-Execution.ensures.value)
-    c.take.ensures.after c.in-Err.ensures refl (world_so _ _ _ _ refl c.put-in-Err.ensures)
+    c.take.ensures.after c.in-Err.ensures.is refl (world_so _ _ _ _ refl c.put-in-Err.ensures)
