@@ -15,6 +15,7 @@ loop-host-preserved g c =
     record {
       so_far = one_more w v (world means c.args.self) before.host c.loop-host-test.true is before.invariant.so_far;
       none = λ h below. ap (λ (u : World). held u.desk h) is ∙ gave_back w before.host h (before.invariant.none h) below;
+      base = c.cancel.ensures.base ∙ before.invariant.base;
     }
 
 pub end-requires : goal.end-requires
