@@ -6,3 +6,4 @@ pub mod Heads
 pub mod Reading
 pub mod Makings
 pub mod Plays
+pub mod Playables

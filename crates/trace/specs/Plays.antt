@@ -1,5 +1,5 @@
 -- A trace played over a store: from power on to power off.
-use Rattle.std.specs.Prelude.{◌≡◌, ℕ, ◌-◌, ◌^◌, min, List, ◌++◌, length, take, drop, Some, None, Ok, Err, Option, Result}
+use Rattle.std.specs.Prelude.{◌≡◌, ℕ, ◌-◌, ◌^◌, min, true, List, ◌++◌, length, take, drop, Some, None, Ok, Err, Option, Result}
 use Rattle.store.specs.Blocks.{Block}
 use Rattle.image.specs.declared.refusal.Refusal.{Refusal}
 use Rattle.flex.specs.declared.status.Status.{Status}
@@ -9,6 +9,7 @@ use Rattle.trace.specs.declared.ending.Ending.{Ending}
 use Rattle.trace.specs.declared.ending.How.{How}
 use Rattle.trace.specs.declared.ending.How.TheVariants as hows
 use Rattle.trace.specs.Courses.{Course, course}
+use Rattle.trace.specs.Endings.{unplayed}
 use Rattle.trace.specs.Heads.{Heading}
 use Rattle.desk.specs.Worlds.{at_start, at_end}
 
@@ -52,8 +53,7 @@ PlaysAll None refusal blocks output o = o ≡ refused hows.NoHead blocks output
 PlaysAll (Some p) (Some refusal) blocks output o = o ≡ refused hows.NoImage blocks output
 PlaysAll (Some p) None blocks output o = Plays p.0 p.1 blocks output o
 
--- And what is seen of it outside, where the store is handed to no one: the output before and after, and how it ended.
-pub record Told (head : Option (Heading × List ℕ)) (refusal : Option Refusal) (blocks : List Block) (before after : List ℕ) (ending : Ending) : Type 0 where
-  -- the blocks that the store means afterwards
-  pub left : List Block
-  pub plays : PlaysAll head refusal blocks before (tells left after ending)
+-- Why nothing is played: over a store of any blocks, and with any output, the trace comes to this refusal.
+pub record IsRefused (head : Option (Heading × List ℕ)) (refusal : Option Refusal) (how : How) : Type 0 where
+  pub comes : (blocks : List Block) (output : List ℕ) → PlaysAll head refusal blocks output (refused how blocks output)
+  pub early : unplayed how ≡ true

@@ -1,7 +1,8 @@
-ghost use Rattle.std.specs.Prelude.{◌≡◌, ◌<◌, ◌≤◌, ◌^◌, length, drop, if◌then◌else◌};
+ghost use Rattle.std.specs.Prelude.{◌≡◌, false, ◌<◌, ◌≤◌, ◌^◌, length, drop, if◌then◌else◌};
 ghost use Rattle.desk.specs.Worlds.{comes_to, world};
 ghost use Rattle.trace.specs.Makings.{made};
 ghost use Rattle.trace.specs.Courses.{course, has_room, made_in, room_for, runs_to, written_in};
+ghost use Rattle.trace.specs.Endings.{unplayed};
 ghost use Rattle.trace.specs.Entries.{buffer_size, entry};
 
 use super::answer::{ANSWER_BYTES, answer_bytes};
@@ -15,7 +16,8 @@ use store::store::Store;
 #[tactic(auto, unfolding(crate::specs::Makings::made))]
 fn make<S: Store>(session: &mut Session<S>, call: Call<'_>, buffer: &mut [u8]) -> Answer
     requires { buffer_size (entry call) ≤ length buffer.old }
-    ensures { comes_to result buffer.new (world S.blocks session.new) ≡ made (world S.blocks session.old) (entry call.entry) buffer.old }
+    ensures is { comes_to result buffer.new (world S.blocks session.new) ≡ made (world S.blocks session.old) (entry call.entry) buffer.old }
+    ensures base { S.base_of session.new.device.store ≡ S.base_of session.old.device.store }
 {
     match call {
         Call::Command { host, message } => session.command(host, message),
@@ -43,6 +45,7 @@ fn step<S: Store>(session: &mut Session<S>, call: Call<'_>, room: &mut [u8]) -> 
     ensures size { result ≡ (if has_room (entry call.entry) room.old then Some (room_for (entry call.entry)) else None) }
     ensures room { room.new ≡ (if has_room (entry call.entry) room.old then written_in (made_in (world S.blocks session.old) (entry call.entry) room.old) (drop (room_for (entry call.entry)) room.old) else room.old) }
     ensures after { world S.blocks session.new ≡ (if has_room (entry call.entry) room.old then (made_in (world S.blocks session.old) (entry call.entry) room.old).world else world S.blocks session.old) }
+    ensures base { S.base_of session.new.device.store ≡ S.base_of session.old.device.store }
 {
     let end = ANSWER_BYTES + call.buffer_size();
     if room.len() < end {
@@ -56,7 +59,9 @@ fn step<S: Store>(session: &mut Session<S>, call: Call<'_>, room: &mut [u8]) -> 
 /// Makes the calls of a trace, until it ends or one cannot be made.
 pub(super) fn run<S: Store>(session: &mut Session<S>, calls: &[u8], output: &mut [u8]) -> Ending
     requires { length output.old < 2 ^ 56 }
-    ensures { runs_to (world S.blocks session.new) output.new result ≡ course (world S.blocks session.old) calls.now output.old }
+    ensures is { runs_to (world S.blocks session.new) output.new result ≡ course (world S.blocks session.old) calls.now output.old }
+    ensures played { unplayed result.how ≡ false }
+    ensures base { S.base_of session.new.device.store ≡ S.base_of session.old.device.store }
 {
     let mut left = calls;
     let mut written = 0;

@@ -6,8 +6,8 @@ use Rattle.trace.specs.Courses.{course}
 use Rattle.trace.proofs.Coursing.{course_nothing, course_none, stopped, ended_as, full, one_on}
 use Rattle.trace.proofs.player.run.Goals as goal
 
-pub returns-in_default : goal.returns-in_default
-returns-in_default g c =
+pub returns-in_default-clause-is : goal.returns-in_default-clause-is
+returns-in_default-clause-is g c =
     let means = g.S.Store.blocks in
     let w = world means c.loop-left.session in
     let tail = drop c.loop-left.written c.loop-left.output in
@@ -15,8 +15,8 @@ returns-in_default g c =
     ended_as _ _ _ _ _ _ c.after.ensures.how c.after.ensures.written
     ∙ stopped w c.loop-left.output c.loop-left.written hows.NoCall (course w c.loop-left.left.now tail) (course (world means c.args.session.now) c.args.calls.now c.args.output.now) c.loop-left.invariant.inside is c.loop-left.invariant.so_far
 
-pub returns-in_default-step : goal.returns-in_default-step
-returns-in_default-step g c =
+pub returns-in_default-step-clause-is : goal.returns-in_default-step-clause-is
+returns-in_default-step-clause-is g c =
     let means = g.S.Store.blocks in
     let before = c.loop-left in
     let stepped = c.in_default-step.ensures in
@@ -31,10 +31,10 @@ loop-left-preserved g c =
     let stepped = c.in-Some-step.ensures in
     let on = one_on (world means before.session) (world means c.step.new.session) before.left.now c.in-Some.rest.now before.output c.step.new.room before.written (entry c.in-Some.call)
     (course (world means c.args.session.now) c.args.calls.now c.args.output.now) c.in-Some-step.size before.invariant.inside c.in-Some.ensures.is before.invariant.so_far c.step.auto.room stepped.size stepped.room stepped.after in
-    record { inside = on.0; so_far = on.1 }
+    record { base = stepped.base ∙ before.invariant.base; inside = on.0; so_far = on.1 }
 
-pub returns : goal.returns
-returns g c =
+pub returns-clause-is : goal.returns-clause-is
+returns-clause-is g c =
     let means = g.S.Store.blocks in
     let w = world means c.loop-left.session in
     let tail = drop c.loop-left.written c.loop-left.output in
