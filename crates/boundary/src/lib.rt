@@ -1,14 +1,13 @@
 //! Traces over lent memory, for C and Rust: one function for each kind of store. docs/TRACE.md says what they take and give.
 #![tactic(auto)]
 
-ghost use Rattle.std.specs.Prelude.{length};
+ghost use Rattle.std.specs.Prelude.{◌≡◌, length};
 ghost use Rattle.store.specs.declared.fault.Protection.TheVariants.{Open};
-ghost use Rattle.flat.specs.Flat.{flat_offered, flat_refusal};
-ghost use Rattle.raw.specs.Raw.{raw_offered, raw_refusal};
-ghost use Rattle.layer.specs.Guards.{guard};
-ghost use Rattle.layer.specs.Windows.{window};
+ghost use Rattle.flat.specs.Flat.{flat_offered, flat_refusal, FlatLeft};
+ghost use Rattle.raw.specs.Raw.{raw_offered, raw_refusal, RawLeft};
+ghost use Rattle.layer.specs.Windows.{outside};
 ghost use Rattle.trace.specs.Heads.{head_in};
-ghost use Rattle.boundary.specs.Exports.{Returns};
+ghost use Rattle.boundary.specs.Exports.{Returns, piled};
 
 use layer::run::Run;
 use trace::images::{play_flat, play_pile, play_raw};
@@ -21,7 +20,8 @@ pub extern "C" fn cuwajimo_flat(
     trace: &[u8],
     output: &mut [u8],
 ) -> u64
-    ensures { Returns (head_in trace.now) (flat_refusal (length image.old) (length damage.old)) (flat_offered image.old damage.old Open) output.old output.new result }
+    ensures told { Returns (head_in trace.now) (flat_refusal (length image.old) (length damage.old)) (flat_offered image.old damage.old Open) (flat_offered image.new damage.new Open) ((image.new ≡ image.old) × (damage.new ≡ damage.old)) output.old output.new result }
+    ensures memory { FlatLeft image.old damage.old image.new damage.new }
 {
     play_flat(image, damage, trace, output).number()
 }
@@ -35,7 +35,8 @@ pub extern "C" fn cuwajimo_raw(
     trace: &[u8],
     output: &mut [u8],
 ) -> u64
-    ensures { Returns (head_in trace.now) (raw_refusal (length image.old) spares.now records) (raw_offered image.old spares.now records Open) output.old output.new result }
+    ensures told { Returns (head_in trace.now) (raw_refusal (length image.old) spares.now records) (raw_offered image.old spares.now records Open) (raw_offered image.new spares.now records Open) (image.new ≡ image.old) output.old output.new result }
+    ensures memory { RawLeft image.old spares.now records image.new }
 {
     play_raw(image, spares, records, trace, output).number()
 }
@@ -52,7 +53,9 @@ pub extern "C" fn cuwajimo_pile(
     trace: &[u8],
     output: &mut [u8],
 ) -> u64
-    ensures { Returns (head_in trace.now) (flat_refusal (length image.old) (length damage.old)) (guard (window (flat_offered image.old damage.old Open) (record { first = window_first; count = window_count })) (record { first = guard_first; count = guard_count })) output.old output.new result }
+    ensures told { Returns (head_in trace.now) (flat_refusal (length image.old) (length damage.old)) (piled window_first window_count guard_first guard_count (flat_offered image.old damage.old Open)) (piled window_first window_count guard_first guard_count (flat_offered image.new damage.new Open)) ((image.new ≡ image.old) × (damage.new ≡ damage.old)) output.old output.new result }
+    ensures others { outside (flat_offered image.new damage.new Open) (record { first = window_first; count = window_count }) ≡ outside (flat_offered image.old damage.old Open) (record { first = window_first; count = window_count }) }
+    ensures memory { FlatLeft image.old damage.old image.new damage.new }
 {
     let shown = Run {
         first: window_first,
