@@ -137,12 +137,8 @@ fn a_foreign_ticket(rt: HostRuntime) -> Result<(), Fail> {
     let Ok(map) = two_blocks() else {
         return Err(Fail::new("no map"));
     };
-    let Ok(image) = FlatImage::open(&mut bytes, &mut damage, Protection::Open) else {
-        return Err(Fail::new("refused"));
-    };
-    let Ok(second) = FlatImage::open(&mut others, &mut marks, Protection::Open) else {
-        return Err(Fail::new("refused"));
-    };
+    let image = FlatImage::over(&mut bytes, &mut damage, Protection::Open);
+    let second = FlatImage::over(&mut others, &mut marks, Protection::Open);
     let mut own = power_on(1, map, image);
     let mut other = power_on(2, map, second);
     foreign_tickets(&rt, &mut own, &mut other);

@@ -13,7 +13,7 @@ fn keeps_all<S: Store>(cache: &Cache<S>, first: u32, last: u32) -> bool {
 }
 
 /// Eight blocks are kept and nothing is below; the ninth makes one give way, and only that one is written.
-fn ninth_gives_way(cache: &mut Cache<FlatImage<'_>>) -> bool {
+fn ninth_gives_way(cache: &mut Cache<FlatImage<'_, '_>>) -> bool {
     let eight = (0..8u32).all(|block| writes(cache, block, 5))
         && keeps_all(cache, 0, 8)
         && has(cache.below().bytes(), 0, 1)
@@ -35,9 +35,7 @@ fn a_ninth_block(rt: HostRuntime) -> Result<(), Fail> {
     let mut bytes = [1u8; 2560];
     let mut damage = [0u8; 2];
     {
-        let Ok(image) = FlatImage::open(&mut bytes, &mut damage, Protection::Open) else {
-            return Err(Fail::new("refused"));
-        };
+        let image = FlatImage::over(&mut bytes, &mut damage, Protection::Open);
         let mut cache = Cache::new(image);
         let done = ninth_gives_way(&mut cache);
         drop(cache.release());
@@ -54,7 +52,7 @@ fn a_ninth_block(rt: HostRuntime) -> Result<(), Fail> {
 }
 
 /// Only open blocks whose bytes were read or written are kept, and settling keeps them.
-fn keeps_open_ones(cache: &mut Cache<WriteGuard<FlatImage<'_>>>) -> bool {
+fn keeps_open_ones(cache: &mut Cache<WriteGuard<FlatImage<'_, '_>>>) -> bool {
     let guarded = reads(cache, 0, 1)
         && !cache.keeps(0)
         && write_refused(cache, 0, FaultKind::Protected)
@@ -84,9 +82,7 @@ fn keeps_open_ones(cache: &mut Cache<WriteGuard<FlatImage<'_>>>) -> bool {
 fn what_is_kept(rt: HostRuntime) -> Result<(), Fail> {
     let mut bytes = [1u8; 768];
     let mut damage = [2u8];
-    let Ok(image) = FlatImage::open(&mut bytes, &mut damage, Protection::Open) else {
-        return Err(Fail::new("refused"));
-    };
+    let image = FlatImage::over(&mut bytes, &mut damage, Protection::Open);
     let mut cache = Cache::new(WriteGuard::new(image, Run { first: 0, count: 1 }));
     let done = keeps_open_ones(&mut cache);
     let mut guard = cache.release();

@@ -10,9 +10,7 @@ use store::store::Store;
 fn faults_come_in_order(rt: HostRuntime) -> Result<(), Fail> {
     let mut bytes = [3u8; 768];
     let mut damage = [0b0000_0010u8];
-    let Ok(mut image) = FlatImage::open(&mut bytes, &mut damage, Protection::Protected) else {
-        return Err(Fail::new("refused"));
-    };
+    let mut image = FlatImage::over(&mut bytes, &mut damage, Protection::Protected);
     assert_eq!(rt; image.size(), 3);
     assert!(rt; read_refused(&mut image, 9, 255, FaultKind::Length));
     assert!(rt; read_refused(&mut image, 1, 257, FaultKind::Length));
@@ -32,9 +30,7 @@ fn a_write_changes_its_bytes_and_its_bit(rt: HostRuntime) -> Result<(), Fail> {
     let mut bytes = [3u8; 2304];
     let mut damage = [0xffu8, 0xff];
     {
-        let Ok(mut image) = FlatImage::open(&mut bytes, &mut damage, Protection::Open) else {
-            return Err(Fail::new("refused"));
-        };
+        let mut image = FlatImage::over(&mut bytes, &mut damage, Protection::Open);
         assert!(rt; writes(&mut image, 8, 5));
         assert!(rt; writes(&mut image, 3, 6));
         assert!(rt; reads(&mut image, 8, 5));
@@ -51,26 +47,33 @@ fn a_write_changes_its_bytes_and_its_bit(rt: HostRuntime) -> Result<(), Fail> {
     Ok(())
 }
 
-/// Why an image on such memory is refused.
-fn refusal(bytes: &mut [u8], damage: &mut [u8]) -> Option<Refusal> {
-    FlatImage::open(bytes, damage, Protection::Open).err()
-}
-
 #[test]
 fn lengths_that_do_not_fit_are_refused(rt: HostRuntime) {
-    assert!(rt; refusal(&mut [0u8; 512], &mut [0u8; 2]) == Some(Refusal::Lengths));
-    assert!(rt; refusal(&mut [0u8; 511], &mut [0u8; 1]) == Some(Refusal::Lengths));
-    assert!(rt; refusal(&mut [0u8; 0], &mut [0u8; 1]) == Some(Refusal::Lengths));
-    assert!(rt; refusal(&mut [0u8; 512], &mut [0u8; 1]) == None);
+    assert!(rt; FlatImage::check(512, 2) == Err(Refusal::Lengths));
+    assert!(rt; FlatImage::check(511, 1) == Err(Refusal::Lengths));
+    assert!(rt; FlatImage::check(0, 1) == Err(Refusal::Lengths));
+    assert!(rt; FlatImage::check(512, 1) == Ok(()));
+}
+
+/// An image over memory that is refused has no blocks, and the memory stays as it was.
+#[test]
+fn over_refused_memory_there_are_no_blocks(rt: HostRuntime) {
+    let mut bytes = [3u8; 512];
+    let mut damage = [0u8; 2];
+    {
+        let mut image = FlatImage::over(&mut bytes, &mut damage, Protection::Open);
+        assert_eq!(rt; image.size(), 0);
+        assert!(rt; write_refused(&mut image, 0, FaultKind::Beyond));
+        image.mark_damaged(0);
+    }
+    assert!(rt; bytes == [3u8; 512] && damage == [0u8; 2]);
 }
 
 #[test]
 fn an_image_of_no_blocks_fits(rt: HostRuntime) -> Result<(), Fail> {
     let mut bytes = [0u8; 0];
     let mut damage = [0u8; 0];
-    let Ok(mut image) = FlatImage::open(&mut bytes, &mut damage, Protection::Open) else {
-        return Err(Fail::new("refused"));
-    };
+    let mut image = FlatImage::over(&mut bytes, &mut damage, Protection::Open);
     assert_eq!(rt; image.size(), 0);
     assert!(rt; read_refused(&mut image, 0, 256, FaultKind::Beyond));
     assert!(rt; write_refused(&mut image, 0, FaultKind::Beyond));

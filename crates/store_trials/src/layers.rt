@@ -11,9 +11,7 @@ use store::store::Store;
 fn a_window_renumbers_and_is_cut(rt: HostRuntime) -> Result<(), Fail> {
     let mut bytes = [1u8; 1280];
     let mut damage = [0b0000_0100u8];
-    let Ok(image) = FlatImage::open(&mut bytes, &mut damage, Protection::Open) else {
-        return Err(Fail::new("refused"));
-    };
+    let image = FlatImage::over(&mut bytes, &mut damage, Protection::Open);
     let mut window = Window::new(image, Run { first: 2, count: 9 });
     assert_eq!(rt; window.size(), 3);
     assert!(rt; read_refused(&mut window, 0, 256, FaultKind::Damaged));
@@ -35,9 +33,7 @@ fn a_window_renumbers_and_is_cut(rt: HostRuntime) -> Result<(), Fail> {
 fn a_guard_protects_one_run_besides(rt: HostRuntime) -> Result<(), Fail> {
     let mut bytes = [1u8; 1280];
     let mut damage = [0u8];
-    let Ok(image) = FlatImage::open(&mut bytes, &mut damage, Protection::Open) else {
-        return Err(Fail::new("refused"));
-    };
+    let image = FlatImage::over(&mut bytes, &mut damage, Protection::Open);
     let mut guard = WriteGuard::new(
         image,
         Run {

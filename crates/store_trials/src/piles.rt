@@ -40,9 +40,7 @@ fn through<S: Store>(image: S) -> (bool, S) {
 fn over_a_flat_image(rt: HostRuntime) -> Result<(), Fail> {
     let mut bytes = [1u8; 1280];
     let mut damage = [0b0001_0100u8];
-    let Ok(image) = FlatImage::open(&mut bytes, &mut damage, Protection::Open) else {
-        return Err(Fail::new("refused"));
-    };
+    let image = FlatImage::over(&mut bytes, &mut damage, Protection::Open);
     let (fine, image) = through(image);
     assert!(rt; fine);
     assert!(rt;
@@ -63,9 +61,7 @@ fn over_a_raw_image(rt: HostRuntime) -> Result<(), Fail> {
     bytes[0] = 0;
     bytes[552] = 0;
     bytes[1104] = 3;
-    let Ok(image) = RawImage::open(&mut bytes, &spares, 2, Protection::Open) else {
-        return Err(Fail::new("refused"));
-    };
+    let image = RawImage::over(&mut bytes, &spares, 2, Protection::Open);
     assert_eq!(rt; image.size(), 3);
     let window = Window::new(image, Run { first: 0, count: 3 });
     let mut cache = Cache::new(window);

@@ -13,9 +13,7 @@ fn faults_come_in_order(rt: HostRuntime) -> Result<(), Fail> {
     // block 1 is the third record of track 0, block 3 the second of track 1
     bytes[552] = 1;
     bytes[1104] = 255;
-    let Ok(mut image) = RawImage::open(&mut bytes, &spares, 3, Protection::Protected) else {
-        return Err(Fail::new("refused"));
-    };
+    let mut image = RawImage::over(&mut bytes, &spares, 3, Protection::Protected);
     assert_eq!(rt; image.size(), 4);
     assert!(rt; read_refused(&mut image, 4, 0, FaultKind::Length));
     assert!(rt; read_refused(&mut image, 4, 256, FaultKind::Beyond));
@@ -34,9 +32,7 @@ fn a_write_changes_one_record(rt: HostRuntime) -> Result<(), Fail> {
     let mut bytes = [7u8; 1656];
     let spares = [0u8, 2];
     {
-        let Ok(mut image) = RawImage::open(&mut bytes, &spares, 3, Protection::Open) else {
-            return Err(Fail::new("refused"));
-        };
+        let mut image = RawImage::over(&mut bytes, &spares, 3, Protection::Open);
         assert!(rt; writes(&mut image, 3, 9));
         assert!(rt; reads(&mut image, 3, 9));
         assert!(rt; read_refused(&mut image, 2, 256, FaultKind::Damaged));
@@ -56,27 +52,25 @@ fn a_write_changes_one_record(rt: HostRuntime) -> Result<(), Fail> {
     Ok(())
 }
 
-/// Why an image on such memory is refused.
-fn refusal<'a>(bytes: &'a mut [u8], spares: &'a [u8], records: u32) -> Option<Refusal> {
-    RawImage::open(bytes, spares, records, Protection::Open).err()
+/// Why an image on so many bytes is refused.
+fn refusal(bytes: usize, spares: &[u8], records: u32) -> Option<Refusal> {
+    RawImage::check(bytes, spares, records).err()
 }
 
 #[test]
 fn refusals_come_in_order(rt: HostRuntime) {
-    assert!(rt; refusal(&mut [0u8; 1104], &[9u8], 1) == Some(Refusal::Records));
-    assert!(rt; refusal(&mut [0u8; 1104], &[9u8], 257) == Some(Refusal::Records));
-    assert!(rt; refusal(&mut [0u8; 1104], &[9u8], 3) == Some(Refusal::Lengths));
-    assert!(rt; refusal(&mut [0u8; 1104], &[1u8, 2], 2) == Some(Refusal::Spare { track: 1 }));
-    assert!(rt; refusal(&mut [0u8; 1104], &[1u8, 0], 2) == None);
+    assert!(rt; refusal(1104, &[9u8], 1) == Some(Refusal::Records));
+    assert!(rt; refusal(1104, &[9u8], 257) == Some(Refusal::Records));
+    assert!(rt; refusal(1104, &[9u8], 3) == Some(Refusal::Lengths));
+    assert!(rt; refusal(1104, &[1u8, 2], 2) == Some(Refusal::Spare { track: 1 }));
+    assert!(rt; refusal(1104, &[1u8, 0], 2) == None);
 }
 
 #[test]
 fn an_image_of_no_blocks_fits(rt: HostRuntime) -> Result<(), Fail> {
     let mut bytes = [0u8; 0];
     let spares = [0u8; 0];
-    let Ok(mut image) = RawImage::open(&mut bytes, &spares, 2, Protection::Open) else {
-        return Err(Fail::new("refused"));
-    };
+    let mut image = RawImage::over(&mut bytes, &spares, 2, Protection::Open);
     assert_eq!(rt; image.size(), 0);
     assert!(rt; read_refused(&mut image, 0, 256, FaultKind::Beyond));
     Ok(())
