@@ -18,3 +18,4 @@ mod Filling
 mod Held
 mod Printed
 mod Running
+mod MediaLeft

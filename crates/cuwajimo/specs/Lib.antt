@@ -6,6 +6,7 @@ pub mod Calls
 pub mod Fills
 pub mod Lines
 pub mod Media
+pub mod Left
 pub mod Plans
 pub mod Readings
 pub mod Scripts

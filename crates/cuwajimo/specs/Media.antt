@@ -4,8 +4,10 @@ use Rattle.store.specs.declared.fault.Protection.{Protection}
 use Rattle.store.specs.Blocks.{Block}
 use Rattle.store.specs.Counts.{most_blocks}
 use Rattle.image.specs.declared.refusal.Refusal.{Refusal}
-use Rattle.flat.specs.Flat.{flat_count, flat_offered, flat_refusal}
-use Rattle.raw.specs.Raw.{raw_count, raw_offered, raw_refusal}
+use Rattle.flat.specs.Lengths.{flat_count}
+use Rattle.flat.specs.Flat.{flat_offered, flat_refusal}
+use Rattle.raw.specs.Lengths.{raw_count}
+use Rattle.raw.specs.Raw.{raw_offered, raw_refusal}
 use Rattle.cuwajimo.specs.declared.medium.Medium.{Medium}
 use Rattle.cuwajimo.specs.declared.medium.Medium.TheVariants.{Flat, Raw}
 use Rattle.cuwajimo.specs.declared.plan.Source.{Source}

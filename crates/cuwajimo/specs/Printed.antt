@@ -25,7 +25,8 @@ use Rattle.cuwajimo.specs.Answers.{host_words, status_words}
 use Rattle.cuwajimo.specs.Calls.{act_name, calls_off, calls_on}
 use Rattle.cuwajimo.specs.Scripts.{HasNoCall}
 use Rattle.cuwajimo.specs.Holders.{holders_of, holders_words}
-use Rattle.cuwajimo.specs.Media.{medium_offered, medium_refusal}
+use Rattle.cuwajimo.specs.Left.{Prepared, PileLeft, PileStays}
+use Rattle.cuwajimo.specs.Media.{medium_offered, medium_refusal, Loaded}
 use Rattle.cuwajimo.specs.Plans.{pile_blocks}
 use Rattle.cuwajimo.specs.Sessions.{lent, host_made, act_left, blocks_left, outcome_of}
 use Rattle.cuwajimo.specs.Shown.{block_said, shown_at}
@@ -133,11 +134,11 @@ off_lines plan source medium acts.Save = save_line source medium
 abbrev pub Prints : (List ℕ → Type 0) → Option (List ℕ) → Option (List ℕ) → Type 0
 Prints Is old new = (text : List ℕ) × Is text × Appends old new text
 
--- The calls after `off`, one after the other, each over what is then in the image's memory. Which bytes that has after a call is not said: a store is
--- known by its blocks.
+-- The calls after `off`, one after the other, each over what is then in the image's memory, which is what a `save` writes: no call changes what the pile
+-- shows of it.
 abbrev pub AfterOff : Plan → Source → Medium → List Call → List ℕ → Type 0
 AfterOff plan source medium [] text = text ≡ []
-AfterOff plan source medium (call ∷ calls) text = (then : Medium) × (rest : List ℕ) × AfterOff plan source then calls rest × (text ≡ off_lines plan source medium call.act ++ rest)
+AfterOff plan source medium (call ∷ calls) text = (then : Medium) × PileStays plan medium then × (rest : List ℕ) × AfterOff plan source then calls rest × (text ≡ off_lines plan source medium call.act ++ rest)
 
 -- The calls from `off` on, if there are any: that the pile is settled, and then those after it.
 abbrev pub FromOff : Plan → Source → Medium → List Call → List ℕ → Type 0
@@ -157,11 +158,14 @@ pub record Serves (case : Case) (blocks : List Block) (outcome : Outcome) (after
 abbrev pub declined_lines : Case → List ℕ
 declined_lines case = nothing_lines (calls_on case) ++ nothing_lines (calls_off case)
 
--- What is printed after the calls before `off`: with a device the calls from `off` on, over what is then in the image's memory; without one, that
+-- What is printed after the calls before `off`: with a device the calls from `off` on, over what it left in the image's memory; without one, that
 -- there is none.
-abbrev pub AfterServed : Result UnitMap Status → Case → Source → List ℕ → Type 0
-AfterServed (Ok map) case source text = (then : Medium) × FromOff case.plan source then (calls_off case) text
-AfterServed (Err status) case source text = text ≡ declined_lines case
+abbrev pub AfterServed : Result UnitMap Status → Case → Source → Medium → List ℕ → Type 0
+AfterServed (Ok map) case source medium text =
+    (then : Medium)
+    × PileLeft case.plan medium (blocks_left (Ok map) case.plan.device (pile_blocks case.plan (medium_offered medium case.plan.protection)) (calls_on case)) then
+    × FromOff case.plan source then (calls_off case) text
+AfterServed (Err status) case source medium text = text ≡ declined_lines case
 
 -- What a case prints whose image is in this memory: that it is refused; or what its device answers, or that its units make no map.
 abbrev pub RunOver : Option Refusal → Case → Source → Medium → List ℕ → Type 0
@@ -170,14 +174,14 @@ RunOver None case source medium text =
     (map : Result UnitMap Status)
     × Makes (vec_items case.plan.units) case.plan.end map
     × (rest : List ℕ)
-    × AfterServed map case source rest
+    × AfterServed map case source medium rest
     × (text ≡ served_lines map case.plan (pile_blocks case.plan (medium_offered medium case.plan.protection)) (calls_on case) ++ rest)
 
--- What a case prints: nothing, where it has no call; else what it prints over the memory that its image was brought into.
+-- What a case prints: nothing, where it has no call; else what it prints over the memory that its image was brought into, as its building lines made it.
 abbrev pub IsRun : Case → List ℕ → Type 0
 IsRun case text =
     (HasNoCall case × (text ≡ []))
-    ⊎ ((source : Source) × (case.plan.source ≡ Some source) × (medium : Medium) × RunOver (medium_refusal medium) case source medium text)
+    ⊎ ((source : Source) × (case.plan.source ≡ Some source) × (loaded : Medium) × Loaded source loaded × (medium : Medium) × Prepared (vec_items case.plan.fills) loaded medium × RunOver (medium_refusal medium) case source medium text)
 
 -- The cases of a script, one after the other.
 abbrev pub AreRun : List Case → List ℕ → Type 0

@@ -1,7 +1,10 @@
 ghost use Rattle.std.specs.Prelude.{◌≡◌};
 ghost use Rattle.image.specs.Images.{harmed};
+ghost use Rattle.flat.specs.Flat.{flat_offered, FlatLeft};
+ghost use Rattle.raw.specs.Raw.{raw_offered, RawLeft};
 ghost use Rattle.cuwajimo.specs.Bytes.{pattern_byte, pattern_block};
 ghost use Rattle.cuwajimo.specs.Fills.{patterned, harmed_all, filled, filled_all};
+ghost use Rattle.cuwajimo.specs.Left.{Prepared};
 
 use super::medium::Medium;
 use super::plan::Fill;
@@ -14,10 +17,11 @@ use store::store::Store;
 /// An image of which a block can be marked damaged.
 pub(super) trait Mark: Store {
     fn mark(&mut self, block: u32)
-        ensures { Self.blocks self.new ≡ harmed (Self.blocks self.old) block };
+        ensures after { Self.blocks self.new ≡ harmed (Self.blocks self.old) block }
+        ensures base { Self.base_of self.new ≡ Self.base_of self.old };
 }
 
-impl Mark for FlatImage<'_> {
+impl Mark for FlatImage<'_, '_> {
     fn mark(&mut self, block: u32) {
         self.mark_damaged(block);
     }
@@ -49,7 +53,8 @@ fn pattern(p: u32, block: u32) -> [u8; BLOCK_BYTES]
 
 /// Makes every block of an image sound, with a pattern's bytes.
 fn lay_pattern<S: Mark>(image: &mut S, p: u32)
-    ensures { S.blocks image.new ≡ patterned p (S.blocks image.old) }
+    ensures after { S.blocks image.new ≡ patterned p (S.blocks image.old) }
+    ensures base { S.base_of image.new ≡ S.base_of image.old }
 {
     for block in 0..image.size() {
         let _ = put_block(image, block, &pattern(p, block));
@@ -58,7 +63,8 @@ fn lay_pattern<S: Mark>(image: &mut S, p: u32)
 
 /// Marks blocks of an image damaged.
 fn mark_all<S: Mark>(image: &mut S, blocks: &[u32])
-    ensures { S.blocks image.new ≡ harmed_all (S.blocks image.old) blocks.now }
+    ensures after { S.blocks image.new ≡ harmed_all (S.blocks image.old) blocks.now }
+    ensures base { S.base_of image.new ≡ S.base_of image.old }
 {
     for block in blocks {
         image.mark(*block);
@@ -67,7 +73,8 @@ fn mark_all<S: Mark>(image: &mut S, blocks: &[u32])
 
 /// Does what one line of the script asks of the image.
 fn apply<S: Mark>(image: &mut S, fill: &Fill)
-    ensures { S.blocks image.new ≡ filled fill.now (S.blocks image.old) }
+    ensures after { S.blocks image.new ≡ filled fill.now (S.blocks image.old) }
+    ensures base { S.base_of image.new ≡ S.base_of image.old }
 {
     match fill {
         Fill::Pattern(p) => lay_pattern(image, *p),
@@ -77,31 +84,48 @@ fn apply<S: Mark>(image: &mut S, fill: &Fill)
 
 /// Does what each line asks, in their order.
 fn apply_all<S: Mark>(image: &mut S, fills: &[Fill])
-    ensures { S.blocks image.new ≡ filled_all fills.now (S.blocks image.old) }
+    ensures after { S.blocks image.new ≡ filled_all fills.now (S.blocks image.old) }
+    ensures base { S.base_of image.new ≡ S.base_of image.old }
 {
     for fill in fills {
         apply(image, fill);
     }
 }
 
-/// Does what each line asks of the image that the memory is, protected or not. Memory that is refused has no blocks to fill.
-pub(super) fn prepare(medium: &mut Medium, fills: &[Fill]) {
+/// Does what each line asks of a flat image in this memory, protected or not. Memory that is refused is left as it is.
+fn prepare_flat(bytes: &mut [u8], damage: &mut [u8], fills: &[Fill])
+    ensures blocks { flat_offered bytes.new damage.new Protection.Open ≡ filled_all fills.now (flat_offered bytes.old damage.old Protection.Open) }
+    ensures memory { FlatLeft bytes.old damage.old bytes.new damage.new }
+{
+    if FlatImage::check(bytes.len(), damage.len()).is_ok() {
+        let mut image = FlatImage::over(bytes, damage, Protection::Open);
+        apply_all(&mut image, fills);
+    }
+}
+
+/// The same of a raw image.
+fn prepare_raw(bytes: &mut [u8], spares: &[u8], records: u32, fills: &[Fill])
+    ensures blocks { raw_offered bytes.new spares.now records Protection.Open ≡ filled_all fills.now (raw_offered bytes.old spares.now records Protection.Open) }
+    ensures memory { RawLeft bytes.old spares.now records bytes.new }
+{
+    if RawImage::check(bytes.len(), spares, records).is_ok() {
+        let mut image = RawImage::over(bytes, spares, records, Protection::Open);
+        apply_all(&mut image, fills);
+    }
+}
+
+/// The same of an image of either kind.
+pub(super) fn prepare(medium: &mut Medium, fills: &[Fill])
+    ensures { Prepared fills.now medium.old medium.new }
+{
     match medium {
         Medium::Flat { bytes, damage } => {
-            let (bytes, damage) = (bytes.as_mut_slice(), damage.as_mut_slice());
-            if let Ok(mut image) = FlatImage::open(bytes, damage, Protection::Open) {
-                apply_all(&mut image, fills);
-            }
+            prepare_flat(bytes.as_mut_slice(), damage.as_mut_slice(), fills);
         }
         Medium::Raw {
             bytes,
             spares,
             records,
-        } => {
-            let (bytes, spares) = (bytes.as_mut_slice(), spares.as_slice());
-            if let Ok(mut image) = RawImage::open(bytes, spares, *records, Protection::Open) {
-                apply_all(&mut image, fills);
-            }
-        }
+        } => prepare_raw(bytes.as_mut_slice(), spares.as_slice(), *records, fills),
     }
 }

@@ -2,6 +2,7 @@ ghost use Rattle.std.specs.Prelude.{◌≡◌, ◌++◌, IfErr, IfOk, MatchResul
 ghost use Rattle.std.specs.Io.KnownBytes.{Appends};
 ghost use Rattle.cuwajimo.specs.declared.session.Outcome.TheVariants.{Refused};
 ghost use Rattle.cuwajimo.specs.Calls.{calls_off, calls_on};
+ghost use Rattle.cuwajimo.specs.Left.{PileStays};
 ghost use Rattle.cuwajimo.specs.Media.{medium_refusal};
 ghost use Rattle.cuwajimo.specs.Troubles.{CannotPrint};
 ghost use Rattle.cuwajimo.specs.Printed.{AfterOff, AreRun, FromOff, IsRun, Prints, RunOver, nothing_lines, off_lines, refused_line, save_line, saved_of, saved_word};
@@ -146,7 +147,8 @@ impl CaseRun<'_> {
         medium: &mut Medium,
         call: &Call,
     ) -> Result<(), Trouble>
-        ensures { OnOk result (Appends (W.contents out.old) (W.contents out.new) (off_lines self.entry.case.now.plan source.now medium.old call.now.act)) }
+        ensures printed { OnOk result (Appends (W.contents out.old) (W.contents out.new) (off_lines self.entry.case.now.plan source.now medium.old call.now.act)) }
+        ensures left { OnOk result (PileStays self.entry.case.now.plan medium.old medium.new) }
     {
         match &call.act {
             Act::Blocks { first, count } => {

@@ -51,7 +51,8 @@ impl HostAct {
 
 /// Makes a host's call, and tells what it answers. The buffer is the one that the call lends.
 fn make<S: Store>(session: &mut Session<S>, host: u8, act: &HostAct, buffer: &mut [u8]) -> Answer
-    ensures { comes_to result buffer.new (world S.blocks session.new) ≡ host_made (world S.blocks session.old) host act.now buffer.old }
+    ensures made { comes_to result buffer.new (world S.blocks session.new) ≡ host_made (world S.blocks session.old) host act.now buffer.old }
+    ensures base { S.base_of session.new.device.store ≡ S.base_of session.old.device.store }
 {
     match act {
         HostAct::Command(bytes) => session.command(host, bytes.as_slice()),
@@ -87,6 +88,7 @@ impl CaseRun<'_> {
         ensures left { OnOk result (world S.blocks session.new ≡ host_left (world S.blocks session.old) host act.now) }
         ensures printed { OnOk result (Appends (W.contents out.old) (W.contents out.new) (host_line (world S.blocks session.old) host act.now)) }
         ensures trouble { IfErr result CannotGoOn }
+        ensures base { S.base_of session.new.device.store ≡ S.base_of session.old.device.store }
     {
         let mut buffer = act.buffer(self.rt.alloc())?;
         let answer = make(session, host, act, buffer.as_mut_slice());
@@ -111,6 +113,7 @@ impl CaseRun<'_> {
         ensures left { OnOk result (world S.blocks session.new ≡ act_left (world S.blocks session.old) act.now) }
         ensures printed { OnOk result (Appends (W.contents out.old) (W.contents out.new) (act_line (world S.blocks session.old) act.now)) }
         ensures trouble { IfErr result CannotGoOn }
+        ensures base { S.base_of session.new.device.store ≡ S.base_of session.old.device.store }
     {
         match act {
             Act::Host { host, act } => self.answer_host(out, session, *host, act),
@@ -149,6 +152,7 @@ impl CaseRun<'_> {
         ensures trouble { IfErr result CannotGoOn }
         ensures printed { OnOk result (Appends (W.contents out.old) (W.contents out.new) (device_line self.entry.case.now.plan.device (length (vec_items self.entry.case.now.plan.units)) (length (S.blocks session.old.device.store)) ++ all_lines (world S.blocks session.old) (vec_items self.entry.case.now.on))) }
         ensures left { OnOk result (world S.blocks session.new ≡ all_left (world S.blocks session.old) (vec_items self.entry.case.now.on)) }
+        ensures base { S.base_of session.new.device.store ≡ S.base_of session.old.device.store }
     {
         self.announce(out, session.size())?;
         for call in self.case.on.iter() {
@@ -163,6 +167,7 @@ impl CaseRun<'_> {
         ensures trouble { IfErr result.outcome CannotGoOn }
         ensures printed { OnOk result.outcome (Appends (W.contents out.old) (W.contents out.new) (served_lines (Ok map) self.entry.case.now.plan (S.blocks store) (vec_items self.entry.case.now.on))) }
         ensures left { OnOk result.outcome (S.blocks result.store ≡ (at_end (all_left (at_start self.entry.case.now.plan.device map (S.blocks store)) (vec_items self.entry.case.now.on))).blocks) }
+        ensures base { S.base_of result.store ≡ S.base_of store }
     {
         let mut session = Session::new(power_on(self.case.plan.device, map, store));
         let outcome = self.answer_all(out, &mut session);
@@ -176,6 +181,7 @@ impl CaseRun<'_> {
     pub(super) fn serve<S: Store, W: Write>(self, out: &mut W, store: S) -> Ended<S>
         ensures trouble { IfErr result.outcome CannotGoOn }
         ensures served { IfOk result.outcome (λ outcome. Serves self.entry.case.now (S.blocks store) outcome (S.blocks result.store) (W.contents out.old) (W.contents out.new)) }
+        ensures base { S.base_of result.store ≡ S.base_of store }
     {
         let plan = &self.case.plan;
         match UnitMap::new(plan.units.as_slice(), plan.end) {

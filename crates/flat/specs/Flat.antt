@@ -47,18 +47,18 @@ flat_meaning image = flat_blocks image.bytes.now image.damage.now image.protecti
 abbrev pub spare_marks : ℕ → List ℕ → List Bool
 spare_marks bytes damage = map (marked damage) (range_with_len (flat_size bytes (length damage)) (8 * length damage - flat_size bytes (length damage)))
 
--- What a flat image stands on, which no call changes: which memory and which map it was lent, its protection, and the spare marks.
+-- What a flat image stands on, which no call changes: which memory and which map it was lent, each by its name and length, its protection, and the spare marks.
 pub record FlatBase : Type 0 where
-  pub memory : ℕ
-  pub marks : ℕ
+  pub memory : ℕ × ℕ
+  pub marks : ℕ × ℕ
   pub protection : Protection
   pub spare : List Bool
 
 -- What an image of this kind stands on.
 abbrev pub flat_base : FlatImage → FlatBase
 flat_base image = record {
-  memory = image.bytes.ghost_name;
-  marks = image.damage.ghost_name;
+  memory = (image.bytes.ghost_name, length image.bytes.now);
+  marks = (image.damage.ghost_name, length image.damage.now);
   protection = image.protection;
   spare = spare_marks (length image.bytes.now) image.damage.now;
 }

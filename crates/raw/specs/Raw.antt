@@ -75,9 +75,9 @@ record_rest bytes spares records m =
 abbrev pub records_rest : List ℕ → List ℕ → ℕ → List (List ℕ)
 records_rest bytes spares records = map (record_rest bytes spares records) (range_with_len 0 (records * length spares))
 
--- What a raw image stands on, which no call changes: which memory it was lent, the spare places, the records of a track, its protection, and what of the records no block tells.
+-- What a raw image stands on, which no call changes: which memory it was lent, by its name and length, the spare places, the records of a track, its protection, and what of the records no block tells.
 pub record RawBase : Type 0 where
-  pub memory : ℕ
+  pub memory : ℕ × ℕ
   pub spares : List ℕ
   pub records : ℕ
   pub protection : Protection
@@ -86,7 +86,7 @@ pub record RawBase : Type 0 where
 -- What an image of this kind stands on.
 abbrev pub raw_base : RawImage → RawBase
 raw_base image = record {
-  memory = image.bytes.ghost_name;
+  memory = (image.bytes.ghost_name, length image.bytes.now);
   spares = image.spares.now;
   records = image.records;
   protection = image.protection;

@@ -26,6 +26,7 @@ loop-block-preserved g c =
         omega (arith, before.1),
         Appends-trans (g.W.Write.contents c.args.out.now) (g.W.Write.contents c.loop-block.out) (g.W.Write.contents c.writeln.new.self) (block_lines blocks first k) (block_line blocks (first + k)) before.2 one,
       ),
+      c.look-shown.ensures.base ∙ c.loop-block.invariant.2,
     )
 
 pub returns-clause-printed : goal.returns-clause-printed

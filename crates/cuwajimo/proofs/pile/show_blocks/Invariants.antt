@@ -8,3 +8,4 @@ abbrev pub invariant-loop-block : goal.invariant-loop-block
 invariant-loop-block g l =
     (g.S.Store.blocks l.store ≡ g.S.Store.blocks l.initial.store)
     × ((k : ℕ) × (l.block ≡ l.first + k) × Appends (g.W.Write.contents l.initial.out) (g.W.Write.contents l.out) (block_lines (g.S.Store.blocks l.initial.store) l.first k))
+    × (g.S.Store.base_of l.store ≡ g.S.Store.base_of l.initial.store)

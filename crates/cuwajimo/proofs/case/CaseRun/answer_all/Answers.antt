@@ -27,6 +27,7 @@ loop-call-preserved g c =
       next_printed (g.W.Write.contents c.announce.new.out) (g.W.Write.contents c.loop-call.out) (g.W.Write.contents c.answer.new.out) so_far.0 (act_line before c.call-item.result.act)
           (all_lines (world means c.answer.new.session) rest) (all_lines (world means c.args.session.now) calls) so_far.1 c.in_ok-answer.ensures.printed
           (ap (λ (w : World). so_far.0 ++ (act_line before c.call-item.result.act ++ all_lines w rest)) left ∙ ap (λ (cs : List Call). so_far.0 ++ all_lines before cs) split ∙ so_far.2),
+      c.answer.ensures.base ∙ c.loop-call.invariant.2,
     )
 
 pub returns-clause-printed : goal.returns-clause-printed

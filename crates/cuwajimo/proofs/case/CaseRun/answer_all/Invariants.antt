@@ -15,3 +15,4 @@ invariant-loop-call g l =
     × ((so_far : List ℕ)
     × Appends (g.W.Write.contents l.initial.out) (g.W.Write.contents l.out) so_far
     × (so_far ++ all_lines (world means l.session) (drop l.call-index calls) ≡ all_lines (world means l.initial.session) calls))
+    × (g.S.Store.base_of l.session.device.store ≡ g.S.Store.base_of l.initial.session.device.store)

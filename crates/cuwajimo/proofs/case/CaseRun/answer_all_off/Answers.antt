@@ -20,10 +20,10 @@ loop-call-preserved g c =
     ap (λ (x : Call). x ∷ rest) c.call-item.is
     ∙ sym (at_drop_more (λ (cs : List Call). cs) calls i call c.loop-call-test.true) in (
       before.0 ++ more,
-      Appends-trans (g.W.Write.contents c.args.out.now) (g.W.Write.contents c.loop-call.out) (g.W.Write.contents c.answer_off.new.out) before.0 more before.1 c.in_ok-answer_off.ensures,
+      Appends-trans (g.W.Write.contents c.args.out.now) (g.W.Write.contents c.loop-call.out) (g.W.Write.contents c.answer_off.new.out) before.0 more before.1 c.in_ok-answer_off.ensures.printed,
       λ text is.
           subst (AfterOff plan source c.args.medium.now calls) (sym (append_assoc before.0 more text))
-          (before.2 (more ++ text) (subst (λ (cs : List Call). AfterOff plan source c.loop-call.medium cs (more ++ text)) split (c.answer_off.new.medium, text, is, refl))),
+          (before.2 (more ++ text) (subst (λ (cs : List Call). AfterOff plan source c.loop-call.medium cs (more ++ text)) split (c.answer_off.new.medium, c.in_ok-answer_off.ensures.left, text, is, refl))),
     )
 
 pub returns : goal.returns

@@ -12,4 +12,4 @@ pub returns-in-Refused : goal.returns-in-Refused
 returns-in-Refused g c =
     let known = g.W.Write.contents in
     was_refused c.args.self.case.now c.args.source.now c.args.medium.now (known c.args.out.now) (known c.on_pile-served.new.out) (known c.decline.new.out) (known c.decided.new.out) c.decline.result c.on_pile-served.result
-    c.decided.result c.on_pile-served.ensures.refusal c.on_pile-served.ensures.done c.decided.ensures (c.in_ok-decided.was ∙ ap Ok c.in-Refused.is) c.decline.ensures.printed
+    c.decided.result c.on_pile-served.new.medium c.on_pile-served.ensures.refusal c.on_pile-served.ensures.done c.decided.ensures (c.in_ok-decided.was ∙ ap Ok c.in-Refused.is) c.decline.ensures.printed

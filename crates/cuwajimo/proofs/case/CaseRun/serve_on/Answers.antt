@@ -13,7 +13,7 @@ returns-clause-left g c =
     let first = world means c.new-session.result in
     left_over c.answer_all-outcome.result first (world means c.answer_all-outcome.new.session) (at_start plan.device c.args.map (means c.args.store)) (means c.power_off.result)
     (vec_items c.args.self.case.now.on) c.answer_all-outcome.ensures.left
-    (started first (state means c.power_on.result) plan.device c.args.map (means c.args.store) c.new-session.ensures c.power_on.ensures.made)
+    (started first (state means c.power_on.result) plan.device c.args.map (means c.args.store) c.new-session.ensures.is c.power_on.ensures.made)
     c.power_off.ensures.same
 
 pub returns-clause-printed : goal.returns-clause-printed
@@ -22,5 +22,5 @@ returns-clause-printed g c =
     let plan = c.args.self.case.now.plan in
     subst
     (λ (w : World). OnOk c.answer_all-outcome.result (Appends (g.W.Write.contents c.args.out.now) (g.W.Write.contents c.answer_all-outcome.new.out) (device_line plan.device (length (vec_items plan.units)) (length w.state.blocks) ++ all_lines w (vec_items c.args.self.case.now.on))))
-    (started (world means c.new-session.result) (state means c.power_on.result) plan.device c.args.map (means c.args.store) c.new-session.ensures c.power_on.ensures.made)
+    (started (world means c.new-session.result) (state means c.power_on.result) plan.device c.args.map (means c.args.store) c.new-session.ensures.is c.power_on.ensures.made)
     c.answer_all-outcome.ensures.printed
