@@ -123,9 +123,23 @@ fn endings(rt: HostRuntime) -> Result<(), Fail> {
     assert_eq!(rt; no_call, 4 << 56);
     let no_room = play_flat(&mut image, &mut damage, &trace, &mut output[..15]).number();
     assert_eq!(rt; no_room, 5 << 56);
+    assert_eq!(rt; output.as_slice(), [9; 31].as_slice());
+    Ok(())
+}
+
+/// A unit with no cylinder makes no map: nothing is played.
+#[test]
+fn a_head_that_makes_no_map(rt: HostRuntime) -> Result<(), Fail> {
+    let mut image = [3u8; 512];
+    let mut damage = [0u8; 1];
+    let mut output = [9u8; 31];
+    let mut trace = [0u8; 18];
+    trace[..17].copy_from_slice(&HEAD);
     trace[8] = 0;
+    trace[17] = 4;
     let no_map = play_flat(&mut image, &mut damage, &trace, &mut output).number();
     assert_eq!(rt; no_map, 3 << 56);
+    assert_eq!(rt; image.as_slice(), [3; 512].as_slice());
     assert_eq!(rt; output.as_slice(), [9; 31].as_slice());
     Ok(())
 }
