@@ -1,12 +1,12 @@
 -- A store of which up to eight open blocks are kept above it, and written to it late.
 use Rattle.std.specs.Prelude.{◌≡◌, ℕ, ◌+◌, ◌%◌, Bool, true, false, cond, not, ◌&&◌, ◌⊎◌, List, [], ◌∷◌, map, length, replicate, is_some, is_ok, Some, None, Option, ◌==◌, ◌≢◌, slice_index_or, slice_set}
-use Rattle.std.proofs.Common.{sym, subst, ◌∙◌, inl, inr}
+use Rattle.std.proofs.Common.{sym, subst, inl, inr}
 use Rattle.std.specs.List.{slice_get, position_from}
 use Rattle.std.specs.Option.{option_map}
 use Rattle.std.proofs.lemmas.Bool.{cases_Bool, eqb-true}
 use Rattle.store.specs.declared.fault.Protection.{Protection}
 use Rattle.store.specs.declared.fault.Protection.TheVariants as protections
-use Rattle.store.specs.Blocks.{Block, read_answer, read_buffer, write_answer, taken, taken_of, written, is_open_at, Whole, WholeOf, Sized, Lawful}
+use Rattle.store.specs.Blocks.{Block, read_answer, read_buffer, write_answer, taken, taken_of, written, is_open_at, Whole, WholeOf, Sized}
 use Rattle.cache.specs.declared.cache.Cache.{Cache}
 use Rattle.cache.specs.declared.slot.Slot.{Slot}
 use Rattle.store.specs.Each.{each, length_each, nth_each}
@@ -189,7 +189,7 @@ put_slot bs (Some b) bytes = written bs b bytes
 abbrev pub after_settle : Held → Held
 after_settle h = record { slots = h.slots; below = means h; turn = h.turn }
 
--- Block i of the cached store, and that it is lawful if the store is.
+-- Block i of the cached store, which has as many blocks as the store.
 module _ (bs : List Block) (slots : List Slot) where
   pub length_cached : length (cached bs slots) ≡ length bs
   length_cached = length_each (λ i. over (kept slots i)) bs
@@ -206,15 +206,8 @@ module _ (bs : List Block) (slots : List Slot) where
   whole_over (Some k) None h = h
   whole_over (Some k) (Some bytes) h = whole_taken bytes k k.protection h
 
-  cached_sized : Sized bs → Sized (cached bs slots)
+  pub cached_sized : Sized bs → Sized (cached bs slots)
   cached_sized s = record {
     few = rw length_cached s.few;
     whole = λ i. subst Whole (sym (nth_cached i)) (whole_over (slice_get bs i) (kept slots i) (s.whole i));
   }
-
--- A cache over a lawful store is one: it holds what it means once all that it keeps is below too, and the store below is settled.
-pub cache_lawful : (blocks stored : List Block) (Settled : Type 0) (slots : List Slot) → Lawful blocks stored Settled → Lawful (cached blocks slots) stored (Settled × (blocks ≡ cached blocks slots))
-cache_lawful blocks stored Settled slots l = record {
-  sized = cached_sized blocks slots l.sized;
-  holds = λ s. l.holds s.0 ∙ s.1;
-}

@@ -5,7 +5,7 @@ ghost use Rattle.cache.specs.Once.{Once};
 
 use super::slot::{Slot, find};
 use store::fault::{BLOCK_BYTES, FaultKind, Protection, StoreFault};
-use store::store::Store;
+use store::store::{ReadStore, Store};
 
 /// How many blocks a cache keeps.
 pub const SLOTS: usize = 8;
@@ -138,20 +138,16 @@ impl<S: Store> Cache<S> {
     }
 }
 
-impl<S: Store> Store for Cache<S> {
-    ghost use Rattle.cache.specs.Caches.{cached_by, cache_lawful, held, after_read, after_write, after_settle, KeptLate};
+impl<S: Store> ReadStore for Cache<S> {
+    ghost use Rattle.cache.specs.Caches.{cached_by, cached_sized, held, after_read, KeptLate};
 
     ghost blocks = { λ s. cached_by S.blocks s };
-
-    ghost stored = { λ s. S.stored s.below };
-
-    ghost settled = { λ s. S.settled s.below × (S.blocks s.below ≡ cached_by S.blocks s) };
 
     ghost Base = { S.Base };
 
     ghost base_of = { λ s. S.base_of s.below };
 
-    ghost lawful = { λ s. cache_lawful (S.blocks s.below) (S.stored s.below) (S.settled s.below) s.slots (S.Store.lawful s.below) };
+    ghost sized = { λ s. cached_sized (S.blocks s.below) s.slots (S.sized s.below) };
 
     fn size(&self) -> u32 {
         self.below.size()
@@ -175,6 +171,17 @@ impl<S: Store> Store for Cache<S> {
         }
         self.fetch(block, buffer)
     }
+}
+
+impl<S: Store> Store for Cache<S> {
+    ghost use Rattle.std.proofs.Common.{◌∙◌};
+    ghost use Rattle.cache.specs.Caches.{cached_by, held, after_write, after_settle, KeptLate};
+
+    ghost stored = { λ s. S.stored s.below };
+
+    ghost settled = { λ s. S.settled s.below × (S.blocks s.below ≡ cached_by S.blocks s) };
+
+    ghost holds = { λ s h. S.holds s.below h.0 ∙ h.1 };
 
     fn write(&mut self, block: u32, bytes: &[u8]) -> Result<(), StoreFault>
         ensures answer { result ≡ write_answer (cached_by S.blocks self.old) block bytes.now }

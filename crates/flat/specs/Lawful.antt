@@ -1,14 +1,14 @@
--- A flat image is a lawful store: few enough blocks, each sound one whole, and always settled.
+-- A flat image has few enough blocks, and each sound one is whole.
 -- What is shown here is what the store's ghost member asks of it; nothing here is a rule to believe.
 use Rattle.std.specs.Prelude.{ℕ, ◌+◌, ◌*◌, ◌/◌, ◌%◌, ◌≤◌, ◌&&◌, List, length, Some, None, ◌==◌, nat_le}
 use Rattle.std.proofs.Common.{arith}
 use Rattle.std.specs.Option.{unwrap_or}
 use Rattle.std.proofs.lemmas.Bool.{and_parts, cond_both, leb-true}
 use Rattle.store.specs.declared.fault.Protection.{Protection}
-use Rattle.store.specs.Blocks.{Lawful}
+use Rattle.store.specs.Blocks.{Sized}
 use Rattle.store.specs.Counts.{most_blocks}
 use Rattle.image.specs.Memory.{part}
-use Rattle.image.specs.Lawful.{length_part, lawful_numbered}
+use Rattle.image.specs.Lawful.{length_part, sized_numbered}
 use Rattle.flat.specs.Lengths.{flat_fits, flat_size}
 use Rattle.flat.specs.Flat.{flat_blocks, marked}
 
@@ -23,8 +23,8 @@ few_flat n m =
 inside_flat : (n m : ℕ) → 256 * flat_size n m ≤ n
 inside_flat n m = cond_both (flat_fits n m) (Some (n / 256)) None (λ o. 256 * unwrap_or o 0 ≤ n) (λ _. omega arith) (λ _. omega arith)
 
--- So its blocks are few enough and whole, and what it holds is what it means.
-pub flat_lawful : (bytes damage : List ℕ) (p : Protection) → Lawful (flat_blocks bytes damage p) (flat_blocks bytes damage p) (Unit {0})
-flat_lawful bytes damage p =
-    lawful_numbered (flat_size (length bytes) (length damage)) (marked damage) (λ i. part bytes (256 * i) 256) p (few_flat (length bytes) (length damage))
+-- So its blocks are few enough and whole.
+pub flat_sized : (bytes damage : List ℕ) (p : Protection) → Sized (flat_blocks bytes damage p)
+flat_sized bytes damage p =
+    sized_numbered (flat_size (length bytes) (length damage)) (marked damage) (λ i. part bytes (256 * i) 256) p (few_flat (length bytes) (length damage))
     (λ i h. length_part bytes (256 * i) 256 (omega (arith, inside_flat (length bytes) (length damage))))

@@ -11,7 +11,7 @@ use image::check::ask;
 use image::copy::copy_block;
 use image::refusal::Refusal;
 use store::fault::{BLOCK_BYTES, FaultKind, Protection, StoreFault};
-use store::store::Store;
+use store::store::{ReadStore, Store};
 
 /// Lent memory with block b at byte 256 x b, and a lent map of one bit a block.
 // One text for this and a raw image would be no plainer: each call's contract says what its own memory holds after,
@@ -107,21 +107,17 @@ impl<'a, 'd> FlatImage<'a, 'd> {
     }
 }
 
-impl Store for FlatImage<'_, '_> {
-    ghost use Rattle.flat.specs.Flat.{FlatBase, flat_meaning, flat_base, without_mark, OnlyMark, SameFlat};
-    ghost use Rattle.flat.specs.Lawful.{flat_lawful};
+impl ReadStore for FlatImage<'_, '_> {
+    ghost use Rattle.flat.specs.Flat.{FlatBase, flat_meaning, flat_base, SameFlat};
+    ghost use Rattle.flat.specs.Lawful.{flat_sized};
 
     ghost blocks = { λ s. flat_meaning s };
-
-    ghost stored = { λ s. flat_meaning s };
-
-    ghost settled = { λ _. Unit {0} };
 
     ghost Base = { FlatBase };
 
     ghost base_of = { λ s. flat_base s };
 
-    ghost lawful = { λ s. flat_lawful s.bytes.now s.damage.now s.protection };
+    ghost sized = { λ s. flat_sized s.bytes.now s.damage.now s.protection };
 
     fn size(&self) -> u32 {
         self.count()
@@ -136,6 +132,17 @@ impl Store for FlatImage<'_, '_> {
     {
         self.fetch(block, buffer)
     }
+}
+
+impl Store for FlatImage<'_, '_> {
+    ghost use Rattle.std.specs.Prelude.{refl};
+    ghost use Rattle.flat.specs.Flat.{flat_meaning, flat_base, without_mark, OnlyMark, SameFlat};
+
+    ghost stored = { λ s. flat_meaning s };
+
+    ghost settled = { λ _. Unit {0} };
+
+    ghost holds = { λ _ _. refl };
 
     fn write(&mut self, block: u32, bytes: &[u8]) -> Result<(), StoreFault>
         ensures answer { result ≡ write_answer (flat_meaning self.old) block bytes.now }

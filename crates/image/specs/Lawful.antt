@@ -1,6 +1,6 @@
--- Blocks made from their numbers are a lawful store: few enough, each sound one whole, and always settled.
+-- Blocks made from their numbers are few enough, and each sound one is whole.
 -- What is shown here is what a store's ghost member asks of an image; nothing here is a rule to believe.
-use Rattle.std.specs.Prelude.{◌≡◌, ℕ, ◌+◌, ◌<◌, ◌≤◌, min, Bool, true, false, List, length, drop, Some, None, refl}
+use Rattle.std.specs.Prelude.{◌≡◌, ℕ, ◌+◌, ◌<◌, ◌≤◌, min, Bool, true, false, List, length, drop, Some, None}
 use Rattle.std.proofs.Common.{sym, ap, subst, ◌∙◌, inl, inr, arith}
 use Rattle.std.specs.List.{slice_get}
 use Rattle.std.proofs.lemmas.List.FromFn.{length-map-range_with_len, get_or-map-range_with_len}
@@ -8,7 +8,7 @@ use Rattle.std.proofs.lemmas.List.{length-take, length-drop}
 use Rattle.std.proofs.lemmas.Option.{slice_get-get_or, slice_get_past}
 use Rattle.std.proofs.lemmas.Bool.{cases_lt}
 use Rattle.store.specs.declared.fault.Protection.{Protection}
-use Rattle.store.specs.Blocks.{Block, Lawful, Whole, WholeOf}
+use Rattle.store.specs.Blocks.{Block, Sized, Whole, WholeOf}
 use Rattle.store.specs.Counts.{most_blocks}
 use Rattle.image.specs.Memory.{part}
 use Rattle.image.specs.Images.{block_of, blocks_by}
@@ -36,10 +36,10 @@ whole_block true bytes p e = tt
 whole_block false bytes p e = e
 
 -- Blocks with 256 bytes each, marked or not.
-pub lawful_numbered :
+pub sized_numbered :
     (n : ℕ) (marks : ℕ → Bool) (bytes : ℕ → List ℕ) (p : Protection) → n ≤ most_blocks → ((i : ℕ) → i < n → length (bytes i) ≡ 256)
-    → Lawful (blocks_by n (λ i. block_of (marks i) (bytes i) p)) (blocks_by n (λ i. block_of (marks i) (bytes i) p)) (Unit {0})
-lawful_numbered n marks bytes p few whole = record { sized = record { few = rw (length_numbered n f) few; whole = at }; holds = λ _. refl }
+    → Sized (blocks_by n (λ i. block_of (marks i) (bytes i) p))
+sized_numbered n marks bytes p few whole = record { few = rw (length_numbered n f) few; whole = at }
   where
     f : ℕ → Block
     f i = block_of (marks i) (bytes i) p

@@ -1,12 +1,12 @@
 -- A store of which one run is protected besides.
 use Rattle.std.specs.Prelude.{◌≡◌, ℕ, Bool, true, false, cond, List, length, Some, None, Ok, Err, Option, Result}
-use Rattle.std.proofs.Common.{sym, ap, subst}
+use Rattle.std.proofs.Common.{sym, subst}
 use Rattle.std.specs.List.{slice_get}
 use Rattle.std.specs.Option.{option_map}
 use Rattle.store.specs.declared.fault.StoreFault.{StoreFault}
 use Rattle.store.specs.declared.fault.Protection.{Protection}
 use Rattle.store.specs.declared.fault.Protection.TheVariants as protections
-use Rattle.store.specs.Blocks.{Block, protections_of, written, Whole, Sized, Lawful}
+use Rattle.store.specs.Blocks.{Block, protections_of, written, Whole, Sized}
 use Rattle.layer.specs.declared.run.Run.{Run}
 use Rattle.layer.specs.declared.guard.WriteGuard.{WriteGuard}
 use Rattle.layer.specs.Runs.{in_run}
@@ -48,7 +48,7 @@ guard_below bs run b bytes = cond (in_run run b) bs (written bs b bytes)
 abbrev pub RunStays : List Block → List Block → Run → Type 0
 RunStays before after run = (j : ℕ) → in_run run j ≡ true → slice_get after j ≡ slice_get before j
 
--- Block i of the guarded store, and that it is lawful if the store is.
+-- Block i of the guarded store, which has as many blocks as the store.
 module _ (bs : List Block) (run : Run) where
   pub length_guard : length (guard bs run) ≡ length bs
   length_guard = length_each (λ i. shut (in_run run i)) bs
@@ -61,15 +61,8 @@ module _ (bs : List Block) (run : Run) where
   whole_shut (Some k) true h = h
   whole_shut (Some k) false h = h
 
-  guard_sized : Sized bs → Sized (guard bs run)
+  pub guard_sized : Sized bs → Sized (guard bs run)
   guard_sized s = record {
     few = rw length_guard s.few;
     whole = λ i. subst Whole (sym (nth_guard i)) (whole_shut (slice_get bs i) (in_run run i) (s.whole i));
   }
-
--- A write guard over a lawful store is one: it holds what it means once it is settled.
-pub guard_lawful : (blocks stored : List Block) (Settled : Type 0) (run : Run) → Lawful blocks stored Settled → Lawful (guard blocks run) (guard stored run) Settled
-guard_lawful blocks stored Settled run l = record {
-  sized = guard_sized blocks run l.sized;
-  holds = λ s. ap (λ bs. guard bs run) (l.holds s);
-}

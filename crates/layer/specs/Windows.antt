@@ -7,7 +7,7 @@ use Rattle.std.proofs.lemmas.Option.{slice_get_past}
 use Rattle.std.proofs.lemmas.Bool.{cases_lt}
 use Rattle.store.specs.declared.fault.FaultKind.TheVariants as kinds
 use Rattle.store.specs.declared.fault.StoreFault.{StoreFault}
-use Rattle.store.specs.Blocks.{Block, fault, written, Whole, Sized, Lawful}
+use Rattle.store.specs.Blocks.{Block, fault, written, Whole, Sized}
 use Rattle.layer.specs.declared.run.Run.{Run}
 use Rattle.layer.specs.declared.window.Window.{Window}
 
@@ -63,7 +63,7 @@ nth_take (suc n) [] i h = refl
 nth_take (suc n) (x ∷ xs) zero h = refl
 nth_take (suc n) (x ∷ xs) (suc i) h = nth_take n xs i (omega arith)
 
--- Block i of the window is block first + i of the store, and a window of a lawful store is lawful.
+-- Block i of the window is block first + i of the store, and a window has no more blocks than the store.
 module _ (bs : List Block) (run : Run) where
   pub length_window : length (window bs run) ≡ min run.count (length bs - run.first)
   length_window = length-take run.count (drop run.first bs) ∙ ap (min run.count) (length-drop run.first bs)
@@ -71,7 +71,7 @@ module _ (bs : List Block) (run : Run) where
   pub nth_window : (i : ℕ) → i < run.count → slice_get (window bs run) i ≡ slice_get bs (run.first + i)
   nth_window i h = nth_take run.count (drop run.first bs) i h ∙ nth_drop run.first bs i
 
-  window_sized : Sized bs → Sized (window bs run)
+  pub window_sized : Sized bs → Sized (window bs run)
   window_sized s = record {
     few = let f = s.few in omega (arith, length_window);
     whole = λ i.
@@ -80,10 +80,3 @@ module _ (bs : List Block) (run : Run) where
           | inr h ↦ subst Whole (sym (slice_get_past (window bs run) i (omega (arith, length_window)))) tt
         ];
   }
-
--- A window on a lawful store is one: it holds what it means once it is settled.
-pub window_lawful : (blocks stored : List Block) (Settled : Type 0) (run : Run) → Lawful blocks stored Settled → Lawful (window blocks run) (window stored run) Settled
-window_lawful blocks stored Settled run l = record {
-  sized = window_sized blocks run l.sized;
-  holds = λ s. ap (λ bs. window bs run) (l.holds s);
-}

@@ -1,12 +1,13 @@
 ghost use Rattle.std.specs.Prelude.{◌≡◌, List};
+ghost use Rattle.std.proofs.Common.{ap};
 ghost use Rattle.store.specs.Blocks.{Block, read_answer, read_buffer, write_answer, written};
 ghost use Rattle.store.specs.declared.fault.Protection.{Protection};
 ghost use Rattle.layer.specs.declared.run.Run.{Run};
-ghost use Rattle.layer.specs.Guards.{GuardBase, guard_base, guarded, guard_lawful, guard_below, RunStays};
+ghost use Rattle.layer.specs.Guards.{GuardBase, guard_base, guarded, guard, guard_sized, guard_below, RunStays};
 
 use super::run::Run;
 use store::fault::{BLOCK_BYTES, FaultKind, Protection, StoreFault};
-use store::store::Store;
+use store::store::{ReadStore, Store};
 
 /// Protects one run of the store below, besides what is protected there.
 // One type for this and a window would be no plainer: what each means of its run differs, and what is alike, `new`,
@@ -42,18 +43,14 @@ impl<S: Store> WriteGuard<S> {
     }
 }
 
-impl<S: Store> Store for WriteGuard<S> {
+impl<S: Store> ReadStore for WriteGuard<S> {
     ghost blocks = { λ s. guarded S.blocks s };
-
-    ghost stored = { λ s. guarded S.stored s };
-
-    ghost settled = { λ s. S.settled s.below };
 
     ghost Base = { GuardBase S.Base };
 
     ghost base_of = { λ s. guard_base S.base_of S.blocks s };
 
-    ghost lawful = { λ s. guard_lawful (S.blocks s.below) (S.stored s.below) (S.settled s.below) s.run (S.Store.lawful s.below) };
+    ghost sized = { λ s. guard_sized (S.blocks s.below) s.run (S.sized s.below) };
 
     fn size(&self) -> u32 {
         self.below.size()
@@ -69,6 +66,14 @@ impl<S: Store> Store for WriteGuard<S> {
     {
         self.below.read(block, buffer)
     }
+}
+
+impl<S: Store> Store for WriteGuard<S> {
+    ghost stored = { λ s. guarded S.stored s };
+
+    ghost settled = { λ s. S.settled s.below };
+
+    ghost holds = { λ s h. ap (λ bs. guard bs s.run) (S.holds s.below h) };
 
     fn write(&mut self, block: u32, bytes: &[u8]) -> Result<(), StoreFault>
         ensures answer { result ≡ write_answer (guarded S.blocks self.old) block bytes.now }

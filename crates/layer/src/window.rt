@@ -1,11 +1,12 @@
 ghost use Rattle.std.specs.Prelude.{◌≡◌, List};
+ghost use Rattle.std.proofs.Common.{ap};
 ghost use Rattle.store.specs.Blocks.{Block, read_answer, read_buffer, write_answer, written};
 ghost use Rattle.layer.specs.declared.run.Run.{Run};
-ghost use Rattle.layer.specs.Windows.{WindowBase, window_base, windowed, window_lawful, number_below, window_below, renumbered, OutsideStays};
+ghost use Rattle.layer.specs.Windows.{WindowBase, window_base, windowed, window, window_sized, number_below, window_below, renumbered, OutsideStays};
 
 use super::run::Run;
 use store::fault::{BLOCK_BYTES, FaultKind, Protection, StoreFault};
-use store::store::Store;
+use store::store::{ReadStore, Store};
 
 /// A run of the blocks of the store below, cut at its end and numbered from 0.
 // A type of its own: see `WriteGuard`.
@@ -22,7 +23,7 @@ fn renumber<T>(r: Result<T, StoreFault>, block: u32) -> Result<T, StoreFault>
     r.map_err(|fault| fault.kind.at(block))
 }
 
-impl<S: Store> Window<S> {
+impl<S: ReadStore> Window<S> {
     /// The window on the blocks of this run.
     pub fn new(below: S, run: Run) -> Window<S>
         ensures below { result.below ≡ below }
@@ -58,18 +59,14 @@ impl<S: Store> Window<S> {
     }
 }
 
-impl<S: Store> Store for Window<S> {
+impl<S: ReadStore> ReadStore for Window<S> {
     ghost blocks = { λ s. windowed S.blocks s };
-
-    ghost stored = { λ s. windowed S.stored s };
-
-    ghost settled = { λ s. S.settled s.below };
 
     ghost Base = { WindowBase S.Base };
 
     ghost base_of = { λ s. window_base S.base_of S.blocks s };
 
-    ghost lawful = { λ s. window_lawful (S.blocks s.below) (S.stored s.below) (S.settled s.below) s.run (S.Store.lawful s.below) };
+    ghost sized = { λ s. window_sized (S.blocks s.below) s.run (S.sized s.below) };
 
     fn size(&self) -> u32 {
         self.run.count_in(self.below.size())
@@ -89,6 +86,14 @@ impl<S: Store> Store for Window<S> {
         let at = self.place(block)?;
         renumber(self.below.read(at, buffer), block)
     }
+}
+
+impl<S: Store> Store for Window<S> {
+    ghost stored = { λ s. windowed S.stored s };
+
+    ghost settled = { λ s. S.settled s.below };
+
+    ghost holds = { λ s h. ap (λ bs. window bs s.run) (S.holds s.below h) };
 
     fn write(&mut self, block: u32, bytes: &[u8]) -> Result<(), StoreFault>
         ensures answer { result ≡ write_answer (windowed S.blocks self.old) block bytes.now }

@@ -1,4 +1,4 @@
--- A raw image is a lawful store: few enough blocks, each sound one whole, and always settled.
+-- A raw image has few enough blocks, and each sound one is whole.
 -- What is shown here is what the store's ghost member asks of it; nothing here is a rule to believe.
 use Rattle.std.specs.Prelude.{ℕ, ◌+◌, ◌-◌, ◌*◌, ◌/◌, ◌%◌, ◌<◌, ◌≤◌, not, ◌&&◌, List, length, Some, None, ◌==◌, nat_le, nat_lt, slice_index}
 use Rattle.std.proofs.Common.{arith}
@@ -6,10 +6,10 @@ use Rattle.std.specs.Option.{unwrap_or}
 use Rattle.std.proofs.lemmas.Nat.{div_below, mod_below, mul-add-lt}
 use Rattle.std.proofs.lemmas.Bool.{and_parts, cond_both, eqb-true, leb-true}
 use Rattle.store.specs.declared.fault.Protection.{Protection}
-use Rattle.store.specs.Blocks.{Lawful}
+use Rattle.store.specs.Blocks.{Sized}
 use Rattle.store.specs.Counts.{most_blocks}
 use Rattle.image.specs.Memory.{part}
-use Rattle.image.specs.Lawful.{length_part, lawful_numbered}
+use Rattle.image.specs.Lawful.{length_part, sized_numbered}
 use Rattle.raw.specs.Lengths.{records_fit, raw_fits, raw_size}
 use Rattle.raw.specs.Raw.{place_of, raw_record, raw_blocks}
 
@@ -36,8 +36,8 @@ inside_raw spares n r i =
     t : ℕ
     t = length spares
 
--- So its blocks are few enough and whole, and what it holds is what it means.
-pub raw_lawful : (bytes spares : List ℕ) (records : ℕ) (p : Protection) → Lawful (raw_blocks bytes spares records p) (raw_blocks bytes spares records p) (Unit {0})
-raw_lawful bytes spares r p =
-    lawful_numbered (raw_size (length bytes) (length spares) r) (λ i. not (slice_index bytes (276 * raw_record spares r i) == 0)) (λ i. part bytes (276 * raw_record spares r i + 6) 256) p (few_raw (length bytes) (length spares) r)
+-- So its blocks are few enough and whole.
+pub raw_sized : (bytes spares : List ℕ) (records : ℕ) (p : Protection) → Sized (raw_blocks bytes spares records p)
+raw_sized bytes spares r p =
+    sized_numbered (raw_size (length bytes) (length spares) r) (λ i. not (slice_index bytes (276 * raw_record spares r i) == 0)) (λ i. part bytes (276 * raw_record spares r i + 6) 256) p (few_raw (length bytes) (length spares) r)
     (λ i h. length_part bytes (276 * raw_record spares r i + 6) 256 (omega (arith, inside_raw spares (length bytes) r i h)))

@@ -10,7 +10,7 @@ use image::check::ask;
 use image::copy::copy_block;
 use image::refusal::Refusal;
 use store::fault::{BLOCK_BYTES, FaultKind, Protection, StoreFault};
-use store::store::Store;
+use store::store::{ReadStore, Store};
 
 /// What header byte 0 of a record is set to: any other number than SOUND says damaged too.
 const SOUND: u8 = 0;
@@ -132,21 +132,17 @@ impl<'a> RawImage<'a> {
     }
 }
 
-impl Store for RawImage<'_> {
-    ghost use Rattle.raw.specs.Raw.{RawBase, raw_meaning, raw_base, image_record, with_data, SameRaw, RecordWritten};
-    ghost use Rattle.raw.specs.Lawful.{raw_lawful};
+impl ReadStore for RawImage<'_> {
+    ghost use Rattle.raw.specs.Raw.{RawBase, raw_meaning, raw_base, SameRaw};
+    ghost use Rattle.raw.specs.Lawful.{raw_sized};
 
     ghost blocks = { λ s. raw_meaning s };
-
-    ghost stored = { λ s. raw_meaning s };
-
-    ghost settled = { λ _. Unit {0} };
 
     ghost Base = { RawBase };
 
     ghost base_of = { λ s. raw_base s };
 
-    ghost lawful = { λ s. raw_lawful s.bytes.now s.spares.now s.records s.protection };
+    ghost sized = { λ s. raw_sized s.bytes.now s.spares.now s.records s.protection };
 
     fn size(&self) -> u32 {
         self.count()
@@ -161,6 +157,17 @@ impl Store for RawImage<'_> {
     {
         self.fetch(block, buffer)
     }
+}
+
+impl Store for RawImage<'_> {
+    ghost use Rattle.std.specs.Prelude.{refl};
+    ghost use Rattle.raw.specs.Raw.{raw_meaning, raw_base, image_record, with_data, SameRaw, RecordWritten};
+
+    ghost stored = { λ s. raw_meaning s };
+
+    ghost settled = { λ _. Unit {0} };
+
+    ghost holds = { λ _ _. refl };
 
     fn write(&mut self, block: u32, bytes: &[u8]) -> Result<(), StoreFault>
         ensures answer { result ≡ write_answer (raw_meaning self.old) block bytes.now }

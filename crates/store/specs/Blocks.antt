@@ -142,12 +142,7 @@ abbrev pub Whole : Option Block → Type 0
 Whole None = Unit {0}
 Whole (Some k) = WholeOf k.contents
 
--- What every store owes of its meaning: no more blocks than that, and 256 bytes in each sound one.
+-- What everything that is read by blocks owes of its meaning: no more blocks than that, and 256 bytes in each sound one.
 pub record Sized (bs : List Block) : Type 0 where
   pub few : length bs ≤ most_blocks
   pub whole : (i : ℕ) → Whole (slice_get bs i)
-
--- And of being settled: then what the memory at the bottom holds is what the store means.
-pub record Lawful (blocks stored : List Block) (Settled : Type 0) : Type 0 where
-  pub sized : Sized blocks
-  pub holds : Settled → stored ≡ blocks

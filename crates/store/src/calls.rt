@@ -3,7 +3,7 @@ ghost use Rattle.store.specs.Blocks.{fetched, write_answer, written};
 ghost use Rattle.store.specs.Laws.{WriteLaw};
 
 use super::fault::{BLOCK_BYTES, StoreFault};
-use super::store::Store;
+use super::store::{ReadStore, Store};
 
 /// Writes a block, and says what whoever reads the store afterwards gets.
 pub fn put_block<S: Store>(store: &mut S, block: u32, bytes: &[u8]) -> Result<(), StoreFault>
@@ -16,7 +16,7 @@ pub fn put_block<S: Store>(store: &mut S, block: u32, bytes: &[u8]) -> Result<()
 }
 
 /// A block's bytes.
-pub fn fetch_block<S: Store>(store: &mut S, block: u32) -> Result<[u8; BLOCK_BYTES], StoreFault>
+pub fn fetch_block<S: ReadStore>(store: &mut S, block: u32) -> Result<[u8; BLOCK_BYTES], StoreFault>
     ensures answer { result ≡ fetched (S.blocks store.old) block }
     ensures same { S.blocks store.new ≡ S.blocks store.old }
     ensures base { S.base_of store.new ≡ S.base_of store.old }

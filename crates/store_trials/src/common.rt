@@ -1,5 +1,5 @@
 use store::fault::{FaultKind, Protection, StoreFault};
-use store::store::Store;
+use store::store::{ReadStore, Store};
 
 /// Whether a call was refused with this fault.
 pub(super) fn refused(answer: Result<(), StoreFault>, kind: FaultKind, block: u32) -> bool {
@@ -7,14 +7,14 @@ pub(super) fn refused(answer: Result<(), StoreFault>, kind: FaultKind, block: u3
 }
 
 /// Whether a block is sound with this byte all over.
-pub(super) fn reads<S: Store>(store: &mut S, block: u32, byte: u8) -> bool {
+pub(super) fn reads<S: ReadStore>(store: &mut S, block: u32, byte: u8) -> bool {
     let mut buffer = [!byte; 256];
     let answer = store.read(block, &mut buffer);
     answer == Ok(()) && buffer == [byte; 256]
 }
 
 /// Whether a read is refused with this fault, and leaves the buffer.
-pub(super) fn read_refused<S: Store>(
+pub(super) fn read_refused<S: ReadStore>(
     store: &mut S,
     block: u32,
     length: usize,

@@ -4,7 +4,7 @@ use flat::lengths::flat_count;
 use image::refusal::Refusal;
 use std::test::Fail;
 use store::fault::{FaultKind, Protection};
-use store::store::Store;
+use store::store::{ReadStore, Store};
 
 #[test]
 fn faults_come_in_order(rt: HostRuntime) -> Result<(), Fail> {

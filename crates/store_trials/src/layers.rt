@@ -5,7 +5,7 @@ use layer::run::Run;
 use layer::window::Window;
 use std::test::Fail;
 use store::fault::{FaultKind, Protection};
-use store::store::Store;
+use store::store::{ReadStore, Store};
 
 #[test]
 fn a_window_renumbers_and_is_cut(rt: HostRuntime) -> Result<(), Fail> {

@@ -8,7 +8,7 @@ use raw::raw::RawImage;
 use std::test::Fail;
 use store::calls::{put_block, settle_down};
 use store::fault::{FaultKind, Protection};
-use store::store::Store;
+use store::store::{ReadStore, Store};
 
 /// What a pile of blocks 1 to 3 of an image of ones answers, of which the second damaged, and the first guarded.
 fn answers<S: Store>(pile: &mut S) -> bool {

@@ -8,7 +8,7 @@ ghost use Rattle.transfer.specs.Segments.{zeros, met_by, converted, read_fault, 
 use host::fault::{HostFault, TransferFault};
 use host::transaction::Transaction;
 use store::fault::{BLOCK_BYTES, StoreFault};
-use store::store::Store;
+use store::store::{ReadStore, Store};
 
 /// The blocks of a transaction's next segment, by the number of the first of them in the store.
 #[derive(Clone, Copy)]
@@ -59,7 +59,7 @@ impl Span {
     /// Reads block k into its part of a buffer. One that cannot be read reads as zeros, and its fault is kept if it is the first.
     // Inlined, since a call would cost as much as all that is asked of a block.
     #[inline(always)]
-    fn read_one<S: Store>(
+    fn read_one<S: ReadStore>(
         &self,
         store: &mut S,
         k: u32,
@@ -79,7 +79,7 @@ impl Span {
     }
 
     /// Reads the blocks into the front of the buffer, and tells the first fault.
-    pub(super) fn read<S: Store>(&self, store: &mut S, buffer: &mut [u8]) -> Option<HostFault>
+    pub(super) fn read<S: ReadStore>(&self, store: &mut S, buffer: &mut [u8]) -> Option<HostFault>
         requires room { 256 * segment_of self.now.transaction ≤ length buffer.old }
         ensures fault { result ≡ read_fault self.now.transaction.unit self.now.first self.now.transaction.at (in_span self.now (S.blocks store.old)) }
         ensures buffer { buffer.new ≡ read_bytes (in_span self.now (S.blocks store.old)) ++ drop (256 * segment_of self.now.transaction) buffer.old }
@@ -98,7 +98,7 @@ impl Span {
 
     /// Reads the blocks to see whether they can be read, and tells the first fault.
     #[tactic(auto, using(crate::proofs::ReadTurns::fault_more))]
-    pub(super) fn verify<S: Store>(&self, store: &mut S) -> Option<HostFault>
+    pub(super) fn verify<S: ReadStore>(&self, store: &mut S) -> Option<HostFault>
         ensures fault { result ≡ read_fault self.now.transaction.unit self.now.first self.now.transaction.at (in_span self.now (S.blocks store.old)) }
         ensures same { S.blocks store.new ≡ S.blocks store.old }
         ensures base { S.base_of store.new ≡ S.base_of store.old }

@@ -5,7 +5,7 @@ use Rattle.cuwajimo.proofs.fill.apply_all.Goals as goal
 
 pub loop-fill-preserved : goal.loop-fill-preserved
 loop-fill-preserved g c =
-    let blocks = g.S.Store.blocks in
+    let blocks = g.S.ReadStore.blocks in
     let xs = c.args.fills.now in
     record {
       so_far = fill_turn xs c.loop-fill.fill-index c.fill-item.result (blocks c.loop-fill.image) (blocks c.apply.new.image) (filled_all xs (blocks c.args.image.now))
@@ -15,6 +15,6 @@ loop-fill-preserved g c =
 
 pub returns-clause-after : goal.returns-clause-after
 returns-clause-after g c =
-    let blocks = g.S.Store.blocks in
+    let blocks = g.S.ReadStore.blocks in
     let xs = c.args.fills.now in
     fill_end xs c.loop-fill.fill-index (blocks c.loop-fill.image) (filled_all xs (blocks c.args.image.now)) c.loop-fill-test.false c.loop-fill.invariant.so_far

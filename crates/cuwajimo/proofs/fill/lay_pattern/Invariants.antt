@@ -4,6 +4,6 @@ use Rattle.cuwajimo.proofs.fill.lay_pattern.Given as goal
 
 abbrev pub invariant-loop-block : goal.invariant-loop-block
 invariant-loop-block g l = record {
-  so_far : patterned_from l.p (length (g.S.Store.blocks l.initial.image) - l.block) l.block (g.S.Store.blocks l.image) ≡ patterned l.p (g.S.Store.blocks l.initial.image);
-  base : g.S.Store.base_of l.image ≡ g.S.Store.base_of l.initial.image;
+  so_far : patterned_from l.p (length (g.S.ReadStore.blocks l.initial.image) - l.block) l.block (g.S.ReadStore.blocks l.image) ≡ patterned l.p (g.S.ReadStore.blocks l.initial.image);
+  base : g.S.ReadStore.base_of l.image ≡ g.S.ReadStore.base_of l.initial.image;
 }

@@ -4,6 +4,6 @@ use Rattle.cuwajimo.proofs.fill.mark_all.Given as goal
 
 abbrev pub invariant-loop-block : goal.invariant-loop-block
 invariant-loop-block g l = record {
-  so_far : harmed_all (g.S.Store.blocks l.image) (drop l.block-index l.blocks) ≡ harmed_all (g.S.Store.blocks l.initial.image) l.blocks;
-  base : g.S.Store.base_of l.image ≡ g.S.Store.base_of l.initial.image;
+  so_far : harmed_all (g.S.ReadStore.blocks l.image) (drop l.block-index l.blocks) ≡ harmed_all (g.S.ReadStore.blocks l.initial.image) l.blocks;
+  base : g.S.ReadStore.base_of l.image ≡ g.S.ReadStore.base_of l.initial.image;
 }

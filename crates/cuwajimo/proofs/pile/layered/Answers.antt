@@ -7,11 +7,11 @@ use Rattle.cuwajimo.proofs.pile.layered.Goals as goal
 
 pub returns : goal.returns
 returns g c =
-    let blocks = g.S.Store.blocks in
+    let blocks = g.S.ReadStore.blocks in
     let e : c.new-2.result ≡ layers c.args.plan.now c.args.image = search rules in
     record {
       exact = e;
       plain = λ none.
           ap (guarded (windowed blocks)) e
-          ∙ plain_layers blocks c.args.plan.now c.args.image (g.S.Store.lawful c.args.image).sized.few none;
+          ∙ plain_layers blocks c.args.plan.now c.args.image (g.S.ReadStore.sized c.args.image).few none;
     }

@@ -9,7 +9,7 @@ use Rattle.cuwajimo.proofs.pile.show_blocks.Goals as goal
 
 pub loop-block-preserved : goal.loop-block-preserved
 loop-block-preserved g c =
-    let means = g.S.Store.blocks in
+    let means = g.S.ReadStore.blocks in
     let blocks = means c.args.store.now in
     let block = c.loop-block.block in
     let first = c.from-first.result in
@@ -31,7 +31,7 @@ loop-block-preserved g c =
 
 pub returns-clause-printed : goal.returns-clause-printed
 returns-clause-printed g c =
-    let blocks = g.S.Store.blocks c.args.store.now in
+    let blocks = g.S.ReadStore.blocks c.args.store.now in
     let before = c.loop-block.invariant.1 in
     let count : before.0 ≡ c.args.count = omega (arith, before.1, c.loop-block-test.false, c.loop-block.auto.block-end (omega arith), c.from.ensures) in
     subst (λ n. Appends (g.W.Write.contents c.args.out.now) (g.W.Write.contents c.loop-block.out) (block_lines blocks c.args.first n)) count

@@ -31,7 +31,7 @@ pub returns : goal.returns
 returns g c =
     let n = c.args.number in
     let map = c.args.map in
-    let bs = g.S.Store.blocks c.args.store in
+    let bs = g.S.ReadStore.blocks c.args.store in
     let made = ap (λ x. built n map bs x c.powered.result) c.at_start.ensures ∙ ap (built n map bs at_start) c.powered.ensures in
     record {
       made = made;
@@ -44,7 +44,7 @@ returns g c =
       faults = subst FaultsFrom (sym made) (faults_from n map bs);
       refusals = refusals_from _;
       moving = subst MovingFrom (sym made) (moving_from _ (sound_on n map bs));
-      transfers = subst TransfersFrom (sym made) (transfers_from _ (g.S.Store.lawful c.args.store).sized.whole (sound_on n map bs));
+      transfers = subst TransfersFrom (sym made) (transfers_from _ (g.S.ReadStore.sized c.args.store).whole (sound_on n map bs));
       describing = subst DescribingFrom (sym made) (describing_from _ (sound_on n map bs));
       sampled = sampled;
       sampled_by_device = sampled_by_device;

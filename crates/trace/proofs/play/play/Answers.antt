@@ -5,7 +5,7 @@ use Rattle.trace.proofs.play.play.Goals as goal
 
 pub returns-clause-plays : goal.returns-clause-plays
 returns-clause-plays g c =
-    let means = g.S.Store.blocks in
+    let means = g.S.ReadStore.blocks in
     let trace = c.args.trace in
     let session = world means c.new-session.result in
     let starts = started session (state means c.power_on.result) trace.device trace.map (means c.args.store) c.new-session.ensures.is c.power_on.ensures.made in

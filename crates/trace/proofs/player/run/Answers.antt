@@ -8,7 +8,7 @@ use Rattle.trace.proofs.player.run.Goals as goal
 
 pub returns-in_default-clause-is : goal.returns-in_default-clause-is
 returns-in_default-clause-is g c =
-    let means = g.S.Store.blocks in
+    let means = g.S.ReadStore.blocks in
     let w = world means c.loop-left.session in
     let tail = drop c.loop-left.written c.loop-left.output in
     let is = course_none w c.loop-left.left.now tail c.loop-left-test.ensures (sym c.in_default.ensures.is) in
@@ -17,7 +17,7 @@ returns-in_default-clause-is g c =
 
 pub returns-in_default-step-clause-is : goal.returns-in_default-step-clause-is
 returns-in_default-step-clause-is g c =
-    let means = g.S.Store.blocks in
+    let means = g.S.ReadStore.blocks in
     let before = c.loop-left in
     let stepped = c.in_default-step.ensures in
     ended_as _ _ _ _ _ _ c.after-in_default-step.ensures.how c.after-in_default-step.ensures.written
@@ -26,7 +26,7 @@ returns-in_default-step-clause-is g c =
 
 pub loop-left-preserved : goal.loop-left-preserved
 loop-left-preserved g c =
-    let means = g.S.Store.blocks in
+    let means = g.S.ReadStore.blocks in
     let before = c.loop-left in
     let stepped = c.in-Some-step.ensures in
     let on = one_on (world means before.session) (world means c.step.new.session) before.left.now c.in-Some.rest.now before.output c.step.new.room before.written (entry c.in-Some.call)
@@ -35,7 +35,7 @@ loop-left-preserved g c =
 
 pub returns-clause-is : goal.returns-clause-is
 returns-clause-is g c =
-    let means = g.S.Store.blocks in
+    let means = g.S.ReadStore.blocks in
     let w = world means c.loop-left.session in
     let tail = drop c.loop-left.written c.loop-left.output in
     let is = course_nothing w c.loop-left.left.now tail c.loop-left-test.ensures in

@@ -7,10 +7,10 @@ use Rattle.trace.proofs.player.run.Given as goal
 -- The output as it stands, with the course of what is left, is the course of the whole.
 abbrev pub invariant-loop-left : goal.invariant-loop-left
 invariant-loop-left g l = record {
-  base : g.S.Store.base_of l.session.device.store ≡ g.S.Store.base_of l.initial.session.device.store;
+  base : g.S.ReadStore.base_of l.session.device.store ≡ g.S.ReadStore.base_of l.initial.session.device.store;
   inside : l.written ≤ length l.output;
-  so_far : led_by (take l.written l.output) (course (world g.S.Store.blocks l.session) l.left (drop l.written l.output))
-      ≡ course (world g.S.Store.blocks l.initial.session) l.initial.left l.initial.output;
+  so_far : led_by (take l.written l.output) (course (world g.S.ReadStore.blocks l.session) l.left (drop l.written l.output))
+      ≡ course (world g.S.ReadStore.blocks l.initial.session) l.initial.left l.initial.output;
 }
 
 abbrev pub decreases-loop-left : goal.decreases-loop-left

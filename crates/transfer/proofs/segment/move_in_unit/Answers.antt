@@ -9,7 +9,7 @@ pub returns-in-None : goal.returns-in-None
 returns-in-None g c =
     let map = c.args.map.now in
     let t = c.args.transaction in
-    let bs = g.S.Store.blocks c.args.store.now in
+    let bs = g.S.ReadStore.blocks c.args.store.now in
     let b = first_of map t.unit + t.at in
     let none = nothing_left t (unit_at map t.unit) c.requires.lies (sym c.in-None.ensures.is) in
     let is : moved_by_command t.command t b (span bs b (segment_of t)) c.args.buffer.now ≡ untried t c.args.buffer.now =

@@ -19,8 +19,8 @@ pub returns-in-Some-clause-held : goal.returns-in-Some-clause-held
 returns-in-Some-clause-held g c =
     let s = c.args.self.now in
     let p = c.args.place in
-    let bs = g.S.Store.blocks s.below in
+    let bs = g.S.ReadStore.blocks s.below in
     let eight : length c.args.self.now.slots ≡ 8 = search rules in
     let back = ap (λ (l : List Slot). set l p (record { block = None; bytes = (get_or l p no_slot).bytes })) (set-get_or s.slots p no_slot) in
     let f = flushed bs s.slots p c.in-Some.block s.once (omega (arith, eight, c.requires)) c.in-Some.is in
-    same_held (back ∙ f.0) (c.write.ensures.after ∙ f.1) refl ∙ ap (without_block (held g.S.Store.blocks s)) (sym c.in-Some.is)
+    same_held (back ∙ f.0) (c.write.ensures.after ∙ f.1) refl ∙ ap (without_block (held g.S.ReadStore.blocks s)) (sym c.in-Some.is)

@@ -10,14 +10,14 @@ use Rattle.cache.proofs.cache.Cache.keep.Goals as goal
 pub returns : goal.returns
 returns g c =
     let s = c.args.self.now in
-    let h = held g.S.Store.blocks s in
+    let h = held g.S.ReadStore.blocks s in
     let roomy = c.room-place.new.self in
     let p = c.room-place.result in
     let b = c.args.block in
     let bytes = c.args.bytes.now in
     let whole : length c.args.bytes.now ≡ 256 = search rules in
     let eight : length c.args.self.now.slots ≡ 8 = search rules in
-    let put = ap (λ (x : Slot). record { slots = set roomy.slots p x; below = g.S.Store.blocks roomy.below; turn = roomy.turn }) c.fill.ensures
+    let put = ap (λ (x : Slot). record { slots = set roomy.slots p x; below = g.S.ReadStore.blocks roomy.below; turn = roomy.turn }) c.fill.ensures
     ∙ ap (λ k. put_at k p b bytes) c.room-place.ensures.held
     ∙ ap (λ q. put_at (with_room h b) q b bytes) c.room-place.ensures.place in
     record {
@@ -30,7 +30,7 @@ returns g c =
 pub invariant_of-self : goal.invariant_of-self
 invariant_of-self g c =
     let s = c.args.self.now in
-    let h = held g.S.Store.blocks s in
+    let h = held g.S.ReadStore.blocks s in
     let roomy = c.room-place.new.self in
     let p = c.room-place.result in
     let room = room_once h c.args.block s.once roomy.slots p c.args.bytes.now roomy.once (ap (λ (k : Held). k.slots) c.room-place.ensures.held) c.room-place.ensures.place in

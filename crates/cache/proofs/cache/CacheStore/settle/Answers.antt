@@ -13,7 +13,7 @@ loop-slot-init g c =
 pub loop-slot-preserved-in-Some-block : goal.loop-slot-preserved-in-Some-block
 loop-slot-preserved-in-Some-block g c =
     let slot = c.in-Some.slot.now in
-    let bs = g.S.Store.blocks c.args.self.now.below in
+    let bs = g.S.ReadStore.blocks c.args.self.now.below in
     let inv = c.loop-slot.invariant in
     let whole : length c.in-Some.slot.now.bytes ≡ 256 = search rules in
     let step : c.loop-slot.slot-iterator.iter.rest.now ≡ c.next.new.self.iter.rest.now ++ (c.in-Some.slot.now ∷ []) = search rules in
@@ -28,7 +28,7 @@ loop-slot-preserved-in-Some-block g c =
 pub loop-slot-preserved : goal.loop-slot-preserved
 loop-slot-preserved g c =
     let slot = c.in-Some.slot.now in
-    let bs = g.S.Store.blocks c.args.self.now.below in
+    let bs = g.S.ReadStore.blocks c.args.self.now.below in
     let inv = c.loop-slot.invariant in
     let step : c.loop-slot.slot-iterator.iter.rest.now ≡ c.next.new.self.iter.rest.now ++ (c.in-Some.slot.now ∷ []) = search rules in (
       slot ∷ inv.0,
@@ -41,7 +41,7 @@ loop-slot-preserved g c =
 pub returns : goal.returns
 returns g c =
     let s = c.args.self.now in
-    let bs = g.S.Store.blocks s.below in
+    let bs = g.S.ReadStore.blocks s.below in
     let inv = c.loop-slot.invariant in
     let none : length c.loop-slot.slot-iterator.iter.rest.now ≡ 0 = search rules in
     let all : inv.0 ≡ s.slots = ap (λ l. l ++ inv.0) (sym (nil_from_length _ none)) ∙ inv.1 in

@@ -8,6 +8,6 @@ abbrev pub invariant-loop-slot : goal.invariant-loop-slot
 invariant-loop-slot g l =
     (ss : List Slot)
     × (l.slot-iterator.iter.rest.now ++ ss ≡ l.fn.self.slots)
-    × (g.S.Store.blocks l.self.1.0 ≡ put_all (g.S.Store.blocks l.fn.self.below) ss)
+    × (g.S.ReadStore.blocks l.self.1.0 ≡ put_all (g.S.ReadStore.blocks l.fn.self.below) ss)
     × WholeSlots ss
-    × (g.S.Store.base_of l.self.1.0 ≡ g.S.Store.base_of l.fn.self.below)
+    × (g.S.ReadStore.base_of l.self.1.0 ≡ g.S.ReadStore.base_of l.fn.self.below)

@@ -11,7 +11,7 @@ use Rattle.cuwajimo.proofs.case.CaseRun.answer_all.Goals as goal
 
 pub loop-call-preserved : goal.loop-call-preserved
 loop-call-preserved g c =
-    let means = g.S.Store.blocks in
+    let means = g.S.ReadStore.blocks in
     let calls = vec_items c.args.self.case.now.on in
     let so_far = c.loop-call.invariant.1 in
     let before = world means c.loop-call.session in
@@ -32,7 +32,7 @@ loop-call-preserved g c =
 
 pub returns-clause-printed : goal.returns-clause-printed
 returns-clause-printed g c =
-    let means = g.S.Store.blocks in
+    let means = g.S.ReadStore.blocks in
     let plan = c.args.self.case.now.plan in
     let calls = vec_items c.args.self.case.now.on in
     let so_far = c.loop-call.invariant.1 in

@@ -9,10 +9,10 @@ use Rattle.cuwajimo.proofs.case.CaseRun.answer_all.Given as goal
 -- what all print.
 abbrev pub invariant-loop-call : goal.invariant-loop-call
 invariant-loop-call g l =
-    let means = g.S.Store.blocks in
+    let means = g.S.ReadStore.blocks in
     let calls = vec_items l.self.case.now.on in
     (all_left (world means l.session) (drop l.call-index calls) ≡ all_left (world means l.initial.session) calls)
     × ((so_far : List ℕ)
     × Appends (g.W.Write.contents l.initial.out) (g.W.Write.contents l.out) so_far
     × (so_far ++ all_lines (world means l.session) (drop l.call-index calls) ≡ all_lines (world means l.initial.session) calls))
-    × (g.S.Store.base_of l.session.device.store ≡ g.S.Store.base_of l.initial.session.device.store)
+    × (g.S.ReadStore.base_of l.session.device.store ≡ g.S.ReadStore.base_of l.initial.session.device.store)

@@ -8,7 +8,7 @@ use Rattle.cuwajimo.proofs.case.CaseRun.serve_on.Goals as goal
 
 pub returns-clause-left : goal.returns-clause-left
 returns-clause-left g c =
-    let means = g.S.Store.blocks in
+    let means = g.S.ReadStore.blocks in
     let plan = c.args.self.case.now.plan in
     let first = world means c.new-session.result in
     left_over c.answer_all-outcome.result first (world means c.answer_all-outcome.new.session) (at_start plan.device c.args.map (means c.args.store)) (means c.power_off.result)
@@ -18,7 +18,7 @@ returns-clause-left g c =
 
 pub returns-clause-printed : goal.returns-clause-printed
 returns-clause-printed g c =
-    let means = g.S.Store.blocks in
+    let means = g.S.ReadStore.blocks in
     let plan = c.args.self.case.now.plan in
     subst
     (λ (w : World). OnOk c.answer_all-outcome.result (Appends (g.W.Write.contents c.args.out.now) (g.W.Write.contents c.answer_all-outcome.new.out) (device_line plan.device (length (vec_items plan.units)) (length w.state.blocks) ++ all_lines w (vec_items c.args.self.case.now.on))))

@@ -7,7 +7,7 @@ use Rattle.desk.proofs.session.Session.power_off.Goals as goal
 
 pub loop-host-preserved : goal.loop-host-preserved
 loop-host-preserved g c =
-    let means = g.S.Store.blocks in
+    let means = g.S.ReadStore.blocks in
     let before = c.loop-host in
     let w = world means before.self in
     let v = world means c.cancel.new.self in
@@ -22,7 +22,7 @@ pub end-requires : goal.end-requires
 end-requires g c = λ h below. c.loop-host.invariant.none h (omega arith)
 
 pub returns-clause-same : goal.returns-clause-same
-returns-clause-same g c = c.power_off.ensures.same ∙ at_last (world g.S.Store.blocks c.loop-host.self) (world g.S.Store.blocks c.args.self) c.loop-host.host (omega arith) c.loop-host.invariant.so_far
+returns-clause-same g c = c.power_off.ensures.same ∙ at_last (world g.S.ReadStore.blocks c.loop-host.self) (world g.S.ReadStore.blocks c.args.self) c.loop-host.host (omega arith) c.loop-host.invariant.so_far
 
 pub returns-clause-holds : goal.returns-clause-holds
-returns-clause-holds g c = c.power_off.ensures.holds ∙ at_last (world g.S.Store.blocks c.loop-host.self) (world g.S.Store.blocks c.args.self) c.loop-host.host (omega arith) c.loop-host.invariant.so_far
+returns-clause-holds g c = c.power_off.ensures.holds ∙ at_last (world g.S.ReadStore.blocks c.loop-host.self) (world g.S.ReadStore.blocks c.args.self) c.loop-host.host (omega arith) c.loop-host.invariant.so_far

@@ -6,7 +6,7 @@ use Rattle.desk.proofs.session.Session.power_off.Given as goal
 -- What is still to be given back leads to where all does; each host so far has no ticket; and the store stands on what it stood on.
 abbrev pub invariant-loop-host : goal.invariant-loop-host
 invariant-loop-host g l = record {
-  so_far : all_given_back (world g.S.Store.blocks l.self) (8 - l.host) l.host ≡ all_given_back (world g.S.Store.blocks l.initial.self) 8 0;
+  so_far : all_given_back (world g.S.ReadStore.blocks l.self) (8 - l.host) l.host ≡ all_given_back (world g.S.ReadStore.blocks l.initial.self) 8 0;
   none : (h : ℕ) → h < l.host → held l.self.desk h ≡ None;
-  base : g.S.Store.base_of l.self.device.store ≡ g.S.Store.base_of l.initial.self.device.store;
+  base : g.S.ReadStore.base_of l.self.device.store ≡ g.S.ReadStore.base_of l.initial.self.device.store;
 }

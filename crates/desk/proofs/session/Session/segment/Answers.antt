@@ -10,7 +10,7 @@ use Rattle.desk.proofs.session.Session.segment.Goals as goal
 
 pub invariant_of-self : goal.invariant_of-self
 invariant_of-self g c =
-    let blocks = g.S.Store.blocks in
+    let blocks = g.S.ReadStore.blocks in
     let was = c.args.self.now in
     record {
       fits = exchanged_own (state blocks was.device) (state blocks c.segment.new.self) c.args.host c.in-Some-Execution.ticket c.args.buffer.now c.segment.new.buffer c.in-Ok.ticket was.desk c.take.new.self c.put.new.self was.fits
@@ -19,7 +19,7 @@ invariant_of-self g c =
 
 pub invariant_of-self-in-Err : goal.invariant_of-self-in-Err
 invariant_of-self-in-Err g c =
-    let blocks = g.S.Store.blocks in
+    let blocks = g.S.ReadStore.blocks in
     let was = c.args.self.now in
     let k = c.in-Some-Execution.ticket in
     let r = c.in-Err.field-0 in
@@ -32,18 +32,18 @@ pub invariant_of-self-in-Some-Report : goal.invariant_of-self-in-Some-Report
 invariant_of-self-in-Some-Report g c =
     let was = c.args.self.now in
     record {
-      fits = back_own (state g.S.Store.blocks was.device) c.args.host (tickets.Report c.in-Some-Report.ticket) was.desk c.take.new.self c.put-in-Some-Report.new.self was.fits
+      fits = back_own (state g.S.ReadStore.blocks was.device) c.args.host (tickets.Report c.in-Some-Report.ticket) was.desk c.take.new.self c.put-in-Some-Report.new.self was.fits
           (rw c.in-Some-Report.field-0-is at c.in-Some-Report.ensures.value) c.take.ensures.after c.put-in-Some-Report.ensures;
     }
 
 pub invariant_of-self-in-None : goal.invariant_of-self-in-None
 invariant_of-self-in-None g c =
     let was = c.args.self.now in
-    record { fits = none_own (state g.S.Store.blocks was.device) c.args.host was.desk c.take.new.self was.fits c.in-None.ensures.value c.take.ensures.after }
+    record { fits = none_own (state g.S.ReadStore.blocks was.device) c.args.host was.desk c.take.new.self was.fits c.in-None.ensures.value c.take.ensures.after }
 
 pub returns-in-Ok-clause-is : goal.returns-in-Ok-clause-is
 returns-in-Ok-clause-is g c =
-    let means = g.S.Store.blocks in
+    let means = g.S.ReadStore.blocks in
     let s = c.segment in
     segment_so (world means c.args.self.now) c.args.host c.args.buffer.now (calls.moved c.in-Ok.ticket s.new.buffer) (state means s.new.self) c.take.new.self
     c.handed-answer.result (record { state = state means s.new.self; desk = c.put.new.self }) c.in-Some-Execution.ticket (rw c.in-Some-Execution.field-0-is at c.in-Some-Execution.ensures.value)
@@ -51,7 +51,7 @@ returns-in-Ok-clause-is g c =
 
 pub returns-in-Err-clause-is : goal.returns-in-Err-clause-is
 returns-in-Err-clause-is g c =
-    let means = g.S.Store.blocks in
+    let means = g.S.ReadStore.blocks in
     let s = c.segment in
     let r = c.in-Err.field-0 in
     segment_so (world means c.args.self.now) c.args.host c.args.buffer.now (calls.returned r.status (tickets.Execution r.ticket) s.new.buffer) (state means s.new.self) c.take.new.self

@@ -8,7 +8,7 @@ use Rattle.transfer.proofs.blocks.Span.read.Goals as goal
 pub loop-k-preserved : goal.loop-k-preserved
 loop-k-preserved g c =
     let x = c.args.self.now in
-    let bs = g.S.Store.blocks c.args.store.now in
+    let bs = g.S.ReadStore.blocks c.args.store.now in
     let k = c.loop-k.k in
     let ys = c.read_one.new.part in
     let same = c.loop-k.invariant.0 in

@@ -4,8 +4,8 @@ use Rattle.transfer.proofs.blocks.Span.verify.Given as goal
 
 abbrev pub invariant-loop-k : goal.invariant-loop-k
 invariant-loop-k g l =
-    let bs = g.S.Store.blocks l.initial.store in
-    (g.S.Store.blocks l.store ≡ bs)
+    let bs = g.S.ReadStore.blocks l.initial.store in
+    (g.S.ReadStore.blocks l.store ≡ bs)
     × (l.fault ≡ read_fault l.self.transaction.unit l.self.first l.self.transaction.at (span bs l.self.first l.k))
     × (length l.scratch ≡ 256)
-    × (g.S.Store.base_of l.store ≡ g.S.Store.base_of l.initial.store)
+    × (g.S.ReadStore.base_of l.store ≡ g.S.ReadStore.base_of l.initial.store)

@@ -6,5 +6,5 @@ use Rattle.transfer.proofs.blocks.Span.write.Given as goal
 abbrev pub invariant-loop-k : goal.invariant-loop-k
 invariant-loop-k g l =
     let t = l.self.transaction in
-    (g.S.Store.base_of l.store ≡ g.S.Store.base_of l.initial.store)
-    × WrittenSoFar (g.S.Store.blocks l.initial.store) (g.S.Store.blocks l.store) l.self.first t.at t.unit l.k (segment_of t) l.buffer
+    (g.S.ReadStore.base_of l.store ≡ g.S.ReadStore.base_of l.initial.store)
+    × WrittenSoFar (g.S.ReadStore.blocks l.initial.store) (g.S.ReadStore.blocks l.store) l.self.first t.at t.unit l.k (segment_of t) l.buffer

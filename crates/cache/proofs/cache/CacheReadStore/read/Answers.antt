@@ -5,13 +5,13 @@ use Rattle.store.specs.Blocks.{read_answer, read_buffer, written, is_open_at}
 use Rattle.cache.specs.Caches.{held, means, keeping, no_slot, cached}
 use Rattle.cache.proofs.SlotFacts.{first_place, first_kept, none_kept}
 use Rattle.cache.proofs.CacheFacts.{compared_open, shut_same, open_kept, unkept_same, keeping_again, read_anew, read_keeps, same_read, open_read}
-use Rattle.cache.proofs.cache.CacheStore.read.Goals as goal
+use Rattle.cache.proofs.cache.CacheReadStore.read.Goals as goal
 
 pub returns-then-ne : goal.returns-then-ne
 returns-then-ne g c =
     let s = c.args.self.now in
-    let bs = g.S.Store.blocks s.below in
-    let h = held g.S.Store.blocks s in
+    let bs = g.S.ReadStore.blocks s.below in
+    let h = held g.S.ReadStore.blocks s in
     let b = c.args.block in
     let buffer = c.args.buffer.now in
     let lent : c.in_ok-buffer.buffer.now ≡ c.args.buffer.now = search rules in
@@ -31,8 +31,8 @@ returns-then-ne g c =
 pub returns-in-Some : goal.returns-in-Some
 returns-in-Some g c =
     let s = c.args.self.now in
-    let bs = g.S.Store.blocks s.below in
-    let h = held g.S.Store.blocks s in
+    let bs = g.S.ReadStore.blocks s.below in
+    let h = held g.S.ReadStore.blocks s in
     let b = c.args.block in
     let long : length c.args.buffer.now ≡ 256 = search rules in
     let p = c.in-Some.place in
@@ -57,8 +57,8 @@ returns-in-Some g c =
 pub returns : goal.returns
 returns g c =
     let s = c.args.self.now in
-    let bs = g.S.Store.blocks s.below in
-    let h = held g.S.Store.blocks s in
+    let bs = g.S.ReadStore.blocks s.below in
+    let h = held g.S.ReadStore.blocks s in
     let b = c.args.block in
     let long : length c.args.buffer.now ≡ 256 = search rules in
     let buffer = c.args.buffer.now in
