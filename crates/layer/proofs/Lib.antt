@@ -1,2 +1,3 @@
 pub mod WindowFacts
 pub mod GuardFacts
+pub mod Parts

@@ -10,6 +10,8 @@ mod flats;
 #[cfg(test)]
 mod layers;
 #[cfg(test)]
+mod masters;
+#[cfg(test)]
 mod piles;
 #[cfg(test)]
 mod raws;

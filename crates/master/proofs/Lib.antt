@@ -1,0 +1,2 @@
+pub mod MasterBlocks
+pub mod CompareFacts

@@ -1,0 +1,3 @@
+pub mod Masters
+pub mod Sized
+pub mod Compares

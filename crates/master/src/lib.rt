@@ -1,0 +1,4 @@
+#![tactic(auto)]
+
+pub mod compare;
+pub mod master;
