@@ -1,4 +1,4 @@
-//! The proved device, by the three C functions of `libboundary.a`. All that is unsafe stands here.
+//! The proved device, by the C functions of `libboundary.a`. All that is unsafe stands here.
 
 use crate::trials::case::{Lent, Side};
 use std::ops::DerefMut;
@@ -41,6 +41,48 @@ unsafe extern "C" {
         output: *mut u8,
         output_len: usize,
     ) -> u64;
+}
+
+unsafe extern "C" {
+    fn cuwajimo_compare(
+        image: *mut u8,
+        image_len: usize,
+        damage: *mut u8,
+        damage_len: usize,
+        first: u32,
+        count: u32,
+        master: *const u8,
+        master_len: usize,
+        master_first: u32,
+        master_count: u32,
+    ) -> u64;
+}
+
+/// The first of a run of a flat image's blocks that differs from a master's, by the proved comparison. A run is its first block and how
+/// many it has.
+pub fn compare(
+    image: &mut [u8],
+    damage: &mut [u8],
+    run: (u32, u32),
+    master: &[u8],
+    other: (u32, u32),
+) -> Option<u32> {
+    // SAFETY: as for the calls below.
+    let number = unsafe {
+        cuwajimo_compare(
+            image.as_mut_ptr(),
+            image.len(),
+            damage.as_mut_ptr(),
+            damage.len(),
+            run.0,
+            run.1,
+            master.as_ptr(),
+            master.len(),
+            other.0,
+            other.1,
+        )
+    };
+    u32::try_from(number).ok()
 }
 
 /// The proved device.

@@ -2,6 +2,7 @@
 
 use boundary_bench::proved::Proved;
 use boundary_bench::timing::clock::RUNS;
+use boundary_bench::timing::comparing::print_comparisons;
 use boundary_bench::timing::pages::Pages;
 use boundary_bench::timing::plans::{
     Blocks, Plan, commands, long_transfers, many_small_transfers, scattered_transfers, set_up,
@@ -30,6 +31,8 @@ fn main() {
         let image = raw(blocks.count() as usize);
         drop(part("raw image", blocks, image, over_raw(blocks)));
     }
+    println!();
+    print_comparisons();
 }
 
 /// Times some plans over one store.

@@ -1,6 +1,8 @@
 //! How long traces take.
 
 pub mod clock;
+#[cfg(feature = "proved")]
+pub mod comparing;
 pub mod pages;
 pub mod plans;
 pub mod scene;

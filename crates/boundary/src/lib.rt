@@ -1,4 +1,4 @@
-//! Traces over lent memory, for C and Rust: one function for each kind of store. docs/TRACE.md says what they take and give.
+//! Traces over lent memory, for C and Rust: one function for each kind of store; and a comparison. docs/TRACE.md says what they take and give.
 #![tactic(auto)]
 
 ghost use Rattle.std.specs.Prelude.{◌≡◌, length};
@@ -7,10 +7,18 @@ ghost use Rattle.flat.specs.Flat.{flat_offered, flat_refusal, FlatLeft};
 ghost use Rattle.raw.specs.Raw.{raw_offered, raw_refusal, RawLeft};
 ghost use Rattle.layer.specs.Windows.{outside};
 ghost use Rattle.trace.specs.Heads.{head_in};
-ghost use Rattle.boundary.specs.Exports.{Returns, piled};
+ghost use Rattle.master.specs.Masters.{master_blocks};
+ghost use Rattle.boundary.specs.Exports.{compared, Returns, piled};
 
+use flat::flat::FlatImage;
 use layer::run::Run;
+use master::compare::compare_runs;
+use master::master::Master;
+use store::fault::Protection;
 use trace::images::{play_flat, play_pile, play_raw};
+
+/// What a comparison returns where no block differs: a number that no block has.
+const NONE_DIFFERS: u64 = 1 << 32;
 
 /// Plays a trace over a flat image, and tells how it ended.
 #[unsafe(no_mangle)]
@@ -66,4 +74,31 @@ pub extern "C" fn cuwajimo_pile(
         count: guard_count,
     };
     play_pile(image, damage, shown, guarded, trace, output).number()
+}
+
+/// Compares a run of a flat image's blocks with a run of a master's, and tells the first that differs.
+#[unsafe(no_mangle)]
+pub extern "C" fn cuwajimo_compare(
+    image: &mut [u8],
+    damage: &mut [u8],
+    first: u32,
+    count: u32,
+    master: &[u8],
+    master_first: u32,
+    master_count: u32,
+) -> u64
+    ensures answer { result ≡ compared (flat_offered image.old damage.old Open) first count (master_blocks master.now) master_first master_count }
+    ensures blocks { flat_offered image.new damage.new Open ≡ flat_offered image.old damage.old Open }
+    ensures memory { FlatLeft image.old damage.old image.new damage.new }
+{
+    let mut image = FlatImage::over(image, damage, Protection::Open);
+    let run = Run { first, count };
+    let other = Run {
+        first: master_first,
+        count: master_count,
+    };
+    match compare_runs(&mut image, run, &mut Master::new(master), other) {
+        Some(block) => u64::from(block),
+        None => NONE_DIFFERS,
+    }
 }
