@@ -9,7 +9,7 @@ use Rattle.cuwajimo.specs.declared.call.Filling.{Filling}
 use Rattle.cuwajimo.specs.declared.call.HostAct.{HostAct}
 use Rattle.cuwajimo.specs.declared.call.HostAct.TheVariants as host_acts
 use Rattle.cuwajimo.specs.Calls.{host_act_name, act_name}
-use Rattle.cuwajimo.specs.CallLines.{IsFilling, AsksFor, IsBlocks, IsCommonLine, IsHostLine, IsCallLine, NamesHostAct, host_act_names}
+use Rattle.cuwajimo.specs.CallLines.{IsFilling, AsksFor, IsBlocks, IsCompare, IsCommonLine, IsHostLine, IsCallLine, NamesHostAct, host_act_names}
 use Rattle.cuwajimo.specs.Words.{all_bytes, IsOneOf}
 use Rattle.cuwajimo.specs.declared.trouble.Trouble.{Trouble}
 use Rattle.cuwajimo.specs.Readings.{ReadsNamedInMemory}
@@ -59,6 +59,11 @@ module _ (words : List (List ℕ)) where
   not_blocks named none (acts.Host host act) line = line.operands
   not_blocks named none (acts.Blocks first count) line = none (acts.Blocks first count) line.operands
   not_blocks named none act line = apart (slice_get words 0) (codes "blocks") (act_name act) refl named line.name
+
+  pub not_compare : First (codes "compare") → ((act : Act) → IsCompare words act → ⊥) → (act : Act) → IsCommonLine words act → ⊥
+  not_compare named none (acts.Host host act) line = line.operands
+  not_compare named none (acts.Compare pile master) line = none (acts.Compare pile master) line.operands
+  not_compare named none act line = apart (slice_get words 0) (codes "compare") (act_name act) refl named line.name
 
 -- Each act's name is among the names.
 pub host_named : (word : Option (List ℕ)) (act : HostAct) → word ≡ Some (host_act_name act) → IsOneOf host_act_names word

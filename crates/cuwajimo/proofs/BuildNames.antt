@@ -6,9 +6,10 @@ use Rattle.layer.specs.declared.run.Run.{Run}
 use Rattle.flex.specs.declared.unit.Unit.{Unit as DeviceUnit}
 use Rattle.cuwajimo.specs.declared.plan.Fill.{Fill}
 use Rattle.cuwajimo.specs.declared.plan.Fill.TheVariants as fills
+use Rattle.cuwajimo.specs.declared.plan.MasterSource.{MasterSource}
 use Rattle.cuwajimo.specs.declared.plan.Source.{Source}
 use Rattle.cuwajimo.specs.declared.plan.Source.TheVariants as sources
-use Rattle.cuwajimo.specs.BuildLines.{Building, image, fill, window, guard, unit, building_name, IsBuildingLine, IsFlat, IsRaw, IsFill, IsRun, IsUnit, IsSingle}
+use Rattle.cuwajimo.specs.BuildLines.{Building, image, fill, master, window, guard, unit, building_name, IsBuildingLine, IsFlat, IsRaw, IsMaster, IsFill, IsRun, IsUnit, IsSingle}
 use Rattle.cuwajimo.proofs.Named.{apart}
 
 -- A fact of whatever a line says follows from the fact of what its first word names.
@@ -56,6 +57,12 @@ module _ (line : ℕ) (words : List (List ℕ)) (P : Building → Type 0) where
   only_damage named f (fill (fills.Pattern p)) said = other (codes "damage") (fill (fills.Pattern p)) refl named said
   only_damage named f (image source) said = other_image (codes "damage") source refl refl named said
   only_damage named f b said = other (codes "damage") b refl named said
+
+  pub only_master : First (codes "master") → ((source : MasterSource) → IsMaster line words source → P (master source)) → (b : Building) → IsBuildingLine line words b → P b
+  only_master named f (master source) said = f source said.operands
+  only_master named f (image source) said = other_image (codes "master") source refl refl named said
+  only_master named f (fill g) said = other_fill (codes "master") g refl refl named said
+  only_master named f b said = other (codes "master") b refl named said
 
   pub only_window : First (codes "window") → ((run : Run) → IsRun words run → P (window run)) → (b : Building) → IsBuildingLine line words b → P b
   only_window named f (window run) said = f run said.operands

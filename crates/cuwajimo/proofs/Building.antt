@@ -5,10 +5,11 @@ use Rattle.std.proofs.lemmas.Bool.{false≢true}
 use Rattle.std.proofs.lemmas.Option.{none-some}
 use Rattle.layer.specs.declared.run.Run.{Run}
 use Rattle.cuwajimo.specs.declared.plan.Fill.{Fill}
+use Rattle.cuwajimo.specs.declared.plan.MasterSource.{MasterSource}
 use Rattle.cuwajimo.specs.declared.plan.Plan.{Plan}
 use Rattle.cuwajimo.specs.declared.plan.Source.{Source}
 use Rattle.cuwajimo.specs.declared.trouble.Trouble.{Trouble}
-use Rattle.cuwajimo.specs.BuildLines.{Building, image, fill, window, guard, IsBuildingLine, IsRun, HasRoom, IsAny, IsOverImage, Adds, AddsNothing, Builds}
+use Rattle.cuwajimo.specs.BuildLines.{Building, image, fill, master, window, guard, IsBuildingLine, IsRun, HasRoom, IsAny, IsOverImage, Adds, AddsNothing, Builds}
 use Rattle.cuwajimo.specs.Plans.{first_set, FillAdded}
 use Rattle.cuwajimo.specs.Troubles.{Blames, Blamed, IfLine}
 use Rattle.cuwajimo.proofs.Troubles.{blamed_for, if_line_weaker}
@@ -44,6 +45,22 @@ module _ (line : ℕ) (words : List (List ℕ)) (before after : Plan) (name : Li
       → ((s : Source) → before.source ≡ Some s → (b : Building) → IsBuildingLine line words b → HasRoom before b → ⊥) → is_ok r ≡ not (is_some before.source)
       → after ≡ record before { source = first_set before.source source } → Blamed line r → Builds IsAny line words before after r
   image_built source r said none ok set blamed = image_cases source r before.source refl said none ok set blamed
+
+  -- The master, of which there is at most one too.
+  master_cases :
+      (source : MasterSource) (r : Result (Unit {0}) Trouble) (earlier : Option MasterSource) → before.master ≡ earlier → IsBuildingLine line words (master source)
+      → ((s : MasterSource) → earlier ≡ Some s → (b : Building) → IsBuildingLine line words b → HasRoom before b → ⊥) → is_ok r ≡ not (is_some earlier)
+      → after ≡ record before { master = first_set earlier source } → Blamed line r → Builds IsAny line words before after r
+  master_cases source (Ok t) None is said none ok set blamed = inr (master source, tt, said, is, set)
+  master_cases source (Ok t) (Some s) is said none ok set blamed = absurd (false≢true (sym ok))
+  master_cases source (Err e) None is said none ok set blamed = absurd (false≢true ok)
+  master_cases source (Err e) (Some s) is said none ok set blamed = refused IsAny line words before after name named e blamed (none s refl)
+
+  pub master_built :
+      (source : MasterSource) (r : Result (Unit {0}) Trouble) → IsBuildingLine line words (master source)
+      → ((s : MasterSource) → before.master ≡ Some s → (b : Building) → IsBuildingLine line words b → HasRoom before b → ⊥) → is_ok r ≡ not (is_some before.master)
+      → after ≡ record before { master = first_set before.master source } → Blamed line r → Builds IsAny line words before after r
+  master_built source r said none ok set blamed = master_cases source r before.master refl said none ok set blamed
 
   -- What is done to it, which stands behind it.
   pub fill_built :

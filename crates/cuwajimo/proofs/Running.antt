@@ -16,6 +16,7 @@ use Rattle.cuwajimo.specs.declared.session.Outcome.TheVariants.{Served, Refused}
 use Rattle.cuwajimo.specs.declared.trouble.Trouble.{Trouble}
 use Rattle.cuwajimo.specs.Calls.{calls_off, calls_on}
 use Rattle.cuwajimo.specs.Left.{Prepared, PileLeft, SameBytes}
+use Rattle.cuwajimo.specs.Masters.{MasterLoaded, shown_by}
 use Rattle.cuwajimo.specs.Media.{medium_offered, medium_refusal, Loaded}
 use Rattle.cuwajimo.specs.Plans.{pile_blocks}
 use Rattle.cuwajimo.specs.Printed.{served_lines, declined_lines, refused_line, FromOff, IsRun, Prints, RunOver, Serves}
@@ -25,15 +26,15 @@ abbrev IsServed : Outcome → Type 0
 IsServed Served = Unit {0}
 IsServed Refused = ⊥
 
-module _ (case : Case) (source : Source) (medium : Medium) (a b c d : Option (List ℕ)) where
+module _ (case : Case) (source : Source) (medium : Medium) (of : Option (List Block)) (a b c d : Option (List ℕ)) where
   abbrev shown : List Block
   shown = pile_blocks case.plan (medium_offered medium case.plan.protection)
 
   abbrev off : Medium → Option (List ℕ) → Type 0
-  off then from = Prints (FromOff case.plan source then (calls_off case)) from c
+  off then from = Prints (FromOff case.plan source then of (calls_off case)) from c
 
   abbrev Over : Option Refusal → Type 0
-  Over refusal = Prints (RunOver refusal case source medium) a c
+  Over refusal = Prints (RunOver refusal case source medium of) a c
 
   -- The units made a map: the device's answers, and then the calls from `off` on.
   mapped : (map : Result UnitMap Status) → Served ≡ outcome_of map → Makes (vec_items case.plan.units) case.plan.end map → Appends a b (served_lines map case.plan shown (calls_on case)) → (then : Medium)
@@ -84,10 +85,11 @@ module _ (case : Case) (source : Source) (medium : Medium) (a b c d : Option (Li
       let s = accepted outcome decision Refused done.0 decided.0 is done.1 in
       subst Over fits (unmapped s.map s.ended s.made s.printed (subst (λ (k : Option (List ℕ)). Appends k c (declined_lines case)) decided.1 rest))
 
--- So a case with calls is run over the memory of its source.
+-- So a case with calls is run over the memory of its source and its master.
 pub run_with :
-    {X E : Type 0} (r : Result X E) (case : Case) (source : Source) (loaded medium : Medium) (a c : Option (List ℕ)) → case.plan.source ≡ Some source
-    → Loaded source loaded → Prepared (vec_items case.plan.fills) loaded medium
-    → OnOk r (Prints (RunOver (medium_refusal medium) case source medium) a c) → OnOk r (Prints (IsRun case) a c)
-run_with (Ok x) case source loaded medium a c is brought prepared all = (all.0, inr (source, is, loaded, brought, medium, prepared, all.1), all.2)
-run_with (Err e) case source loaded medium a c is brought prepared all = tt
+    {X E : Type 0} (r : Result X E) (case : Case) (source : Source) (loaded medium : Medium) (memory : Option (List ℕ)) (of : Option (List Block)) (a c : Option (List ℕ)) → case.plan.source ≡ Some source
+    → Loaded source loaded → Prepared (vec_items case.plan.fills) loaded medium → MasterLoaded case.plan.master memory → of ≡ shown_by memory
+    → OnOk r (Prints (RunOver (medium_refusal medium) case source medium of) a c) → OnOk r (Prints (IsRun case) a c)
+run_with (Ok x) case source loaded medium memory of a c is brought prepared held shows all =
+    (all.0, inr (source, is, loaded, brought, medium, prepared, memory, held, subst (λ (o : Option (List Block)). RunOver (medium_refusal medium) case source medium o all.0) shows all.1), all.2)
+run_with (Err e) case source loaded medium memory of a c is brought prepared held shows all = tt

@@ -5,6 +5,8 @@ use Rattle.layer.specs.declared.run.Run.{Run}
 use Rattle.store.specs.declared.fault.Protection.TheVariants as protections
 use Rattle.cuwajimo.specs.declared.plan.Fill.{Fill}
 use Rattle.cuwajimo.specs.declared.plan.Fill.TheVariants as fills
+use Rattle.cuwajimo.specs.declared.plan.MasterSource.{MasterSource}
+use Rattle.cuwajimo.specs.declared.plan.MasterSource.TheVariants as masters
 use Rattle.cuwajimo.specs.declared.plan.Plan.{Plan}
 use Rattle.cuwajimo.specs.declared.plan.Source.{Source}
 use Rattle.cuwajimo.specs.declared.plan.Source.TheVariants as sources
@@ -40,6 +42,12 @@ IsRaw line words (sources.RawFiles bytes spares records) =
     (number_in (2 ^ 32) (slice_get words 1) ≡ None) × NamesFile line (slice_get words 1) bytes × NamesFile line (slice_get words 2) spares
     × (number_in (2 ^ 32) (slice_get words 3) ≡ Some records) × EndsAfter words 4
 
+-- A master: a number of blocks in memory and the number of their pattern, or a file, where the second word is no number below 2^32.
+abbrev pub IsMaster : ℕ → List (List ℕ) → MasterSource → Type 0
+IsMaster line words (masters.Pattern blocks pattern) =
+    (number_in (2 ^ 32) (slice_get words 1) ≡ Some blocks) × (number_in (2 ^ 32) (slice_get words 2) ≡ Some pattern) × EndsAfter words 3
+IsMaster line words (masters.File file) = (number_in (2 ^ 32) (slice_get words 1) ≡ None) × NamesFile line (slice_get words 1) file × EndsAfter words 2
+
 -- A run of blocks: where it begins, and how many they are.
 pub record IsRun (words : List (List ℕ)) (run : Run) : Type 0 where
   pub first : number_in (2 ^ 32) (slice_get words 1) ≡ Some run.first
@@ -68,6 +76,7 @@ IsFill words (fills.Damage blocks) = all_numbers (2 ^ 32) (drop 1 words) ≡ Som
 pub data Building : Type 0 where
   image : Source → Building
   fill : Fill → Building
+  master : MasterSource → Building
   protect : Building
   window : Run → Building
   guard : Run → Building
@@ -92,6 +101,7 @@ fill_name (fills.Damage blocks) = codes "damage"
 abbrev pub building_name : Building → List ℕ
 building_name (image source) = source_name source
 building_name (fill f) = fill_name f
+building_name (master source) = codes "master"
 building_name protect = codes "protect"
 building_name (window run) = codes "window"
 building_name (guard run) = codes "guard"
@@ -111,6 +121,7 @@ IsSource line words (sources.RawFiles bytes spares records) = IsRaw line words (
 abbrev pub AreBuildingOperands : ℕ → List (List ℕ) → Building → Type 0
 AreBuildingOperands line words (image source) = IsSource line words source
 AreBuildingOperands line words (fill f) = IsFill words f
+AreBuildingOperands line words (master source) = IsMaster line words source
 AreBuildingOperands line words protect = EndsAfter words 1
 AreBuildingOperands line words (window run) = IsRun words run
 AreBuildingOperands line words (guard run) = IsRun words run
@@ -124,10 +135,11 @@ pub record IsBuildingLine (line : ℕ) (words : List (List ℕ)) (b : Building) 
   pub name : slice_get words 0 ≡ Some (building_name b)
   pub operands : AreBuildingOperands line words b
 
--- The plan has room for it: there is one image, one window and one guard, and an image to do something to.
+-- The plan has room for it: there is one image, one master, one window and one guard, and an image to do something to.
 abbrev pub HasRoom : Plan → Building → Type 0
 HasRoom plan (image source) = plan.source ≡ None
 HasRoom plan (fill f) = is_some plan.source ≡ true
+HasRoom plan (master source) = plan.master ≡ None
 HasRoom plan protect = Unit {0}
 HasRoom plan (window run) = plan.window ≡ None
 HasRoom plan (guard run) = plan.guard ≡ None
@@ -140,6 +152,7 @@ HasRoom plan (device n) = Unit {0}
 abbrev pub Leaves : Plan → Building → Plan → Type 0
 Leaves before (image source) after = after ≡ record before { source = Some source }
 Leaves before (fill f) after = (vec_items after.fills ≡ vec_items before.fills ++ f ∷ []) × (after ≡ record before { fills = after.fills })
+Leaves before (master source) after = after ≡ record before { master = Some source }
 Leaves before protect after = after ≡ record before { protection = protections.Protected }
 Leaves before (window run) after = after ≡ record before { window = Some run }
 Leaves before (guard run) after = after ≡ record before { guard = Some run }
@@ -148,10 +161,11 @@ Leaves before (unit u) after = (vec_items after.units ≡ vec_items before.units
 Leaves before (end n) after = after ≡ record before { end = n }
 Leaves before (device n) after = after ≡ record before { device = n }
 
--- It is not about the image itself.
+-- It is about neither the image itself nor the master.
 abbrev pub IsOverImage : Building → Type 0
 IsOverImage (image source) = ⊥
 IsOverImage (fill f) = ⊥
+IsOverImage (master source) = ⊥
 IsOverImage protect = Unit {0}
 IsOverImage (window run) = Unit {0}
 IsOverImage (guard run) = Unit {0}
@@ -164,6 +178,7 @@ IsOverImage (device n) = Unit {0}
 abbrev pub IsOfDevice : Building → Type 0
 IsOfDevice (image source) = ⊥
 IsOfDevice (fill f) = ⊥
+IsOfDevice (master source) = ⊥
 IsOfDevice protect = ⊥
 IsOfDevice (window run) = ⊥
 IsOfDevice (guard run) = ⊥

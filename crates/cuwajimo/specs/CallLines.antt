@@ -6,6 +6,7 @@ use Rattle.cuwajimo.specs.declared.call.Filling.{Filling}
 use Rattle.cuwajimo.specs.declared.call.HostAct.{HostAct}
 use Rattle.cuwajimo.specs.declared.call.HostAct.TheVariants as host_acts
 use Rattle.cuwajimo.specs.declared.call.Call.{Call}
+use Rattle.layer.specs.declared.run.Run.{Run}
 use Rattle.cuwajimo.specs.Calls.{host_act_name, act_name}
 use Rattle.cuwajimo.specs.Words.{IsOneOf, number_in, all_bytes}
 
@@ -52,15 +53,35 @@ IsBlocks words acts.Locks = ⊥
 IsBlocks words acts.Activity = ⊥
 IsBlocks words acts.Off = ⊥
 IsBlocks words (acts.Blocks first count) = AreBlocks words first count
+IsBlocks words (acts.Compare pile master) = ⊥
 IsBlocks words acts.Save = ⊥
 
--- What stands after the name of a call that is for no host: the run of `blocks`, or nothing.
+-- What stands after the name of `compare`: a run of the pile's blocks and one of the master's, each by two numbers below 2^32, and nothing after them.
+pub record AreCompared (words : List (List ℕ)) (pile master : Run) : Type 0 where
+  pub from : number_in (2 ^ 32) (slice_get words 1) ≡ Some pile.first
+  pub number : number_in (2 ^ 32) (slice_get words 2) ≡ Some pile.count
+  pub master_from : number_in (2 ^ 32) (slice_get words 3) ≡ Some master.first
+  pub master_number : number_in (2 ^ 32) (slice_get words 4) ≡ Some master.count
+  pub end : EndsAfter words 5
+
+-- The call is a `compare` of two such runs.
+abbrev pub IsCompare : List (List ℕ) → Act → Type 0
+IsCompare words (acts.Host host act) = ⊥
+IsCompare words acts.Locks = ⊥
+IsCompare words acts.Activity = ⊥
+IsCompare words acts.Off = ⊥
+IsCompare words (acts.Blocks first count) = ⊥
+IsCompare words (acts.Compare pile master) = AreCompared words pile master
+IsCompare words acts.Save = ⊥
+
+-- What stands after the name of a call that is for no host: the run of `blocks`, the runs of `compare`, or nothing.
 abbrev pub AreCommonOperands : List (List ℕ) → Act → Type 0
 AreCommonOperands words (acts.Host host act) = ⊥
 AreCommonOperands words acts.Locks = EndsAfter words 1
 AreCommonOperands words acts.Activity = EndsAfter words 1
 AreCommonOperands words acts.Off = EndsAfter words 1
 AreCommonOperands words (acts.Blocks first count) = AreBlocks words first count
+AreCommonOperands words (acts.Compare pile master) = AreCompared words pile master
 AreCommonOperands words acts.Save = EndsAfter words 1
 
 -- The line of a call that is for no host: its first word is the call's name, and what stands after it is the call's.
@@ -75,6 +96,7 @@ IsCallLine words acts.Locks = IsCommonLine words acts.Locks
 IsCallLine words acts.Activity = IsCommonLine words acts.Activity
 IsCallLine words acts.Off = IsCommonLine words acts.Off
 IsCallLine words (acts.Blocks first count) = IsCommonLine words (acts.Blocks first count)
+IsCallLine words (acts.Compare pile master) = IsCommonLine words (acts.Compare pile master)
 IsCallLine words acts.Save = IsCommonLine words acts.Save
 
 -- The names of the acts for a host.
@@ -83,7 +105,7 @@ host_act_names = codes "command" ∷ codes "segment" ∷ codes "report" ∷ code
 
 -- The names of the calls that are for no host.
 abbrev pub common_names : List (List ℕ)
-common_names = codes "locks" ∷ codes "activity" ∷ codes "off" ∷ codes "save" ∷ codes "blocks" ∷ []
+common_names = codes "locks" ∷ codes "activity" ∷ codes "off" ∷ codes "save" ∷ codes "blocks" ∷ codes "compare" ∷ []
 
 -- The names of all calls.
 abbrev pub call_names : List (List ℕ)

@@ -25,6 +25,7 @@ act_name acts.Locks = codes "locks"
 act_name acts.Activity = codes "activity"
 act_name acts.Off = codes "off"
 act_name (acts.Blocks first count) = codes "blocks"
+act_name (acts.Compare pile master) = codes "compare"
 act_name acts.Save = codes "save"
 
 -- The call that powers the device off.
@@ -34,6 +35,7 @@ is_off_act acts.Locks = false
 is_off_act acts.Activity = false
 is_off_act acts.Off = true
 is_off_act (acts.Blocks first count) = false
+is_off_act (acts.Compare pile master) = false
 is_off_act acts.Save = false
 
 -- The calls of a case before the first `off`.

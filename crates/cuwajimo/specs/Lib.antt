@@ -5,6 +5,7 @@ pub mod CallLines
 pub mod Calls
 pub mod Fills
 pub mod Lines
+pub mod Masters
 pub mod Media
 pub mod Left
 pub mod Plans

@@ -34,10 +34,11 @@ pile_blocks plan blocks = guard (window blocks (shown_run plan)) (guarded_run pl
 abbrev pub NoLayer : Plan → Type 0
 NoLayer plan = (plan.window ≡ None) × (plan.guard ≡ None)
 
--- A new plan has no image, nothing to do to it, no protection, no layer, no unit, and the numbers 0.
+-- A new plan has no image, nothing to do to it, no master, no protection, no layer, no unit, and the numbers 0.
 pub record NothingAsked (plan : Plan) : Type 0 where
   pub source : plan.source ≡ None
   pub fills : vec_items plan.fills ≡ []
+  pub master : plan.master ≡ None
   pub protection : plan.protection ≡ protections.Open
   pub window : plan.window ≡ None
   pub guard : plan.guard ≡ None

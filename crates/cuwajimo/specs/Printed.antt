@@ -1,6 +1,9 @@
 -- What the calls of a case print.
 use Rattle.std.specs.Prelude.{◌≡◌, ◌⊎◌, ℕ, zero, suc, ◌+◌, List, [], ◌∷◌, ◌++◌, length, codes, decimal, Some, None, Ok, Err, Option, Result, vec_items}
 use Rattle.std.specs.Io.KnownBytes.{Appends}
+use Rattle.layer.specs.declared.run.Run.{Run}
+use Rattle.layer.specs.Windows.{window}
+use Rattle.master.specs.Compares.{first_unlike}
 use Rattle.store.specs.Blocks.{Block}
 use Rattle.flex.specs.declared.status.Status.{Status}
 use Rattle.flex.specs.declared.unit_map.UnitMap.{UnitMap}
@@ -26,6 +29,7 @@ use Rattle.cuwajimo.specs.Calls.{act_name, calls_off, calls_on}
 use Rattle.cuwajimo.specs.Scripts.{HasNoCall}
 use Rattle.cuwajimo.specs.Holders.{holders_of, holders_words}
 use Rattle.cuwajimo.specs.Left.{Prepared, PileLeft, PileStays}
+use Rattle.cuwajimo.specs.Masters.{MasterLoaded, shown_by}
 use Rattle.cuwajimo.specs.Media.{medium_offered, medium_refusal, Loaded}
 use Rattle.cuwajimo.specs.Plans.{pile_blocks}
 use Rattle.cuwajimo.specs.Sessions.{lent, host_made, act_left, blocks_left, outcome_of}
@@ -35,13 +39,14 @@ use Rattle.cuwajimo.specs.Shown.{block_said, shown_at}
 abbrev pub line : List ℕ → List ℕ
 line words = words ++ 10 ∷ []
 
--- What a call is asked of: `blocks` and `save` of the store that is left after `off`, any other of the device.
+-- What a call is asked of: `blocks`, `compare` and `save` of the store that is left after `off`, any other of the device.
 abbrev pub needed : Act → List ℕ
 needed (acts.Host h act) = codes "device"
 needed acts.Locks = codes "device"
 needed acts.Activity = codes "device"
 needed acts.Off = codes "device"
 needed (acts.Blocks first count) = codes "store"
+needed (acts.Compare pile master) = codes "store"
 needed acts.Save = codes "store"
 
 -- A call for which there is no store, or no device.
@@ -65,13 +70,14 @@ made_line h act m = line (host_words h act m.answer m.buffer)
 abbrev pub host_line : World → ℕ → HostAct → List ℕ
 host_line w h act = made_line h act (host_made w h act (lent act))
 
--- A call while the device is on: who holds its locks, how many blocks were asked for, and for `blocks` and `save` that there is no store.
+-- A call while the device is on: who holds its locks, how many blocks were asked for, and for `blocks`, `compare` and `save` that there is no store.
 abbrev pub act_line : World → Act → List ℕ
 act_line w (acts.Host h act) = host_line w h act
 act_line w acts.Locks = line (holders_words (holders_of w.state.hosts))
 act_line w acts.Activity = line (codes "activity: " ++ decimal w.state.activity)
 act_line w acts.Off = nothing_line acts.Off
 act_line w (acts.Blocks first count) = nothing_line (acts.Blocks first count)
+act_line w (acts.Compare pile master) = nothing_line (acts.Compare pile master)
 act_line w acts.Save = nothing_line acts.Save
 
 -- The calls of a case, one after the other.
@@ -120,15 +126,31 @@ abbrev pub shown_lines : Option Refusal → List Block → ℕ → ℕ → List 
 shown_lines None blocks first count = block_lines blocks first count
 shown_lines (Some refusal) blocks first count = refused_line refusal
 
--- A call after `off`, over an image that is in this memory: `blocks` shows the pile's, `save` tells whether it was written, and for any other there is
--- no device.
-abbrev pub off_lines : Plan → Source → Medium → Act → List ℕ
-off_lines plan source medium (acts.Host h act) = nothing_line (acts.Host h act)
-off_lines plan source medium acts.Locks = nothing_line acts.Locks
-off_lines plan source medium acts.Activity = nothing_line acts.Activity
-off_lines plan source medium acts.Off = nothing_line acts.Off
-off_lines plan source medium (acts.Blocks first count) = shown_lines (medium_refusal medium) (pile_blocks plan (medium_offered medium plan.protection)) first count
-off_lines plan source medium acts.Save = save_line source medium
+-- What is told of a comparison: the first block that differs, or that none does.
+abbrev pub compared_words : Option ℕ → List ℕ
+compared_words None = codes "none differs"
+compared_words (Some block) = codes "block " ++ (decimal block ++ codes " differs")
+
+-- A run of a pile's blocks is compared with a run of a master's, and counted from their first.
+abbrev pub compare_line : List Block → Run → List Block → Run → List ℕ
+compare_line blocks pile of master = line (codes "compare: " ++ compared_words (first_unlike (window blocks pile) (window of master)))
+
+-- Where there is no master that is told; else runs of a pile over an image are compared, unless the image is refused.
+abbrev pub compared_lines : Option Refusal → List Block → Run → Option (List Block) → Run → List ℕ
+compared_lines refusal blocks pile None master = line (codes "compare: no master")
+compared_lines None blocks pile (Some of) master = compare_line blocks pile of master
+compared_lines (Some refusal) blocks pile (Some of) master = refused_line refusal
+
+-- A call after `off`, over an image that is in this memory and with the blocks of the master, if there is one: `blocks` shows the pile's, `compare`
+-- compares them with the master's, `save` tells whether the image was written, and for any other there is no device.
+abbrev pub off_lines : Plan → Source → Medium → Option (List Block) → Act → List ℕ
+off_lines plan source medium of (acts.Host h act) = nothing_line (acts.Host h act)
+off_lines plan source medium of acts.Locks = nothing_line acts.Locks
+off_lines plan source medium of acts.Activity = nothing_line acts.Activity
+off_lines plan source medium of acts.Off = nothing_line acts.Off
+off_lines plan source medium of (acts.Blocks first count) = shown_lines (medium_refusal medium) (pile_blocks plan (medium_offered medium plan.protection)) first count
+off_lines plan source medium of (acts.Compare pile master) = compared_lines (medium_refusal medium) (pile_blocks plan (medium_offered medium plan.protection)) pile of master
+off_lines plan source medium of acts.Save = save_line source medium
 
 -- What is printed is some text that is as it should be.
 abbrev pub Prints : (List ℕ → Type 0) → Option (List ℕ) → Option (List ℕ) → Type 0
@@ -136,14 +158,14 @@ Prints Is old new = (text : List ℕ) × Is text × Appends old new text
 
 -- The calls after `off`, one after the other, each over what is then in the image's memory, which is what a `save` writes: no call changes what the pile
 -- shows of it.
-abbrev pub AfterOff : Plan → Source → Medium → List Call → List ℕ → Type 0
-AfterOff plan source medium [] text = text ≡ []
-AfterOff plan source medium (call ∷ calls) text = (then : Medium) × PileStays plan medium then × (rest : List ℕ) × AfterOff plan source then calls rest × (text ≡ off_lines plan source medium call.act ++ rest)
+abbrev pub AfterOff : Plan → Source → Medium → Option (List Block) → List Call → List ℕ → Type 0
+AfterOff plan source medium of [] text = text ≡ []
+AfterOff plan source medium of (call ∷ calls) text = (then : Medium) × PileStays plan medium then × (rest : List ℕ) × AfterOff plan source then of calls rest × (text ≡ off_lines plan source medium of call.act ++ rest)
 
 -- The calls from `off` on, if there are any: that the pile is settled, and then those after it.
-abbrev pub FromOff : Plan → Source → Medium → List Call → List ℕ → Type 0
-FromOff plan source medium [] text = text ≡ []
-FromOff plan source medium (call ∷ calls) text = (rest : List ℕ) × AfterOff plan source medium calls rest × (text ≡ line (codes "off: settled") ++ rest)
+abbrev pub FromOff : Plan → Source → Medium → Option (List Block) → List Call → List ℕ → Type 0
+FromOff plan source medium of [] text = text ≡ []
+FromOff plan source medium of (call ∷ calls) text = (rest : List ℕ) × AfterOff plan source medium of calls rest × (text ≡ line (codes "off: settled") ++ rest)
 
 -- A case served over a store of these blocks: by the map that its units make, or by none, the outcome, the blocks after its calls before `off`,
 -- and what is printed, by what an output is known to hold before and after.
@@ -160,28 +182,30 @@ declined_lines case = nothing_lines (calls_on case) ++ nothing_lines (calls_off 
 
 -- What is printed after the calls before `off`: with a device the calls from `off` on, over what it left in the image's memory; without one, that
 -- there is none.
-abbrev pub AfterServed : Result UnitMap Status → Case → Source → Medium → List ℕ → Type 0
-AfterServed (Ok map) case source medium text =
+abbrev pub AfterServed : Result UnitMap Status → Case → Source → Medium → Option (List Block) → List ℕ → Type 0
+AfterServed (Ok map) case source medium of text =
     (then : Medium)
     × PileLeft case.plan medium (blocks_left (Ok map) case.plan.device (pile_blocks case.plan (medium_offered medium case.plan.protection)) (calls_on case)) then
-    × FromOff case.plan source then (calls_off case) text
-AfterServed (Err status) case source medium text = text ≡ declined_lines case
+    × FromOff case.plan source then of (calls_off case) text
+AfterServed (Err status) case source medium of text = text ≡ declined_lines case
 
 -- What a case prints whose image is in this memory: that it is refused; or what its device answers, or that its units make no map.
-abbrev pub RunOver : Option Refusal → Case → Source → Medium → List ℕ → Type 0
-RunOver (Some refusal) case source medium text = text ≡ refused_line refusal ++ declined_lines case
-RunOver None case source medium text =
+abbrev pub RunOver : Option Refusal → Case → Source → Medium → Option (List Block) → List ℕ → Type 0
+RunOver (Some refusal) case source medium of text = text ≡ refused_line refusal ++ declined_lines case
+RunOver None case source medium of text =
     (map : Result UnitMap Status)
     × Makes (vec_items case.plan.units) case.plan.end map
     × (rest : List ℕ)
-    × AfterServed map case source medium rest
+    × AfterServed map case source medium of rest
     × (text ≡ served_lines map case.plan (pile_blocks case.plan (medium_offered medium case.plan.protection)) (calls_on case) ++ rest)
 
--- What a case prints: nothing, where it has no call; else what it prints over the memory that its image was brought into, as its building lines made it.
+-- What a case prints: nothing, where it has no call; else what it prints over the memory that its image was brought into, as its building lines made it, and
+-- with the master that its line brings in.
 abbrev pub IsRun : Case → List ℕ → Type 0
 IsRun case text =
     (HasNoCall case × (text ≡ []))
-    ⊎ ((source : Source) × (case.plan.source ≡ Some source) × (loaded : Medium) × Loaded source loaded × (medium : Medium) × Prepared (vec_items case.plan.fills) loaded medium × RunOver (medium_refusal medium) case source medium text)
+    ⊎ ((source : Source) × (case.plan.source ≡ Some source) × (loaded : Medium) × Loaded source loaded × (medium : Medium) × Prepared (vec_items case.plan.fills) loaded medium
+    × (memory : Option (List ℕ)) × MasterLoaded case.plan.master memory × RunOver (medium_refusal medium) case source medium (shown_by memory) text)
 
 -- The cases of a script, one after the other.
 abbrev pub AreRun : List Case → List ℕ → Type 0

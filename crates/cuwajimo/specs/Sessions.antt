@@ -49,6 +49,7 @@ act_left w acts.Locks = w
 act_left w acts.Activity = w
 act_left w acts.Off = w
 act_left w (acts.Blocks first count) = w
+act_left w (acts.Compare pile master) = w
 act_left w acts.Save = w
 
 -- The calls of a case, one after the other.

@@ -1,12 +1,12 @@
 ghost use Rattle.std.specs.Prelude.{◌≡◌, not, is_some, is_ok, IsSomeAnd, None};
-ghost use Rattle.cuwajimo.specs.BuildLines.{IsFlat, IsRaw, IsRawInMemory, IsRun, IsUnit, IsSingle, IsAny, IsOverImage, IsOfDevice, Builds};
+ghost use Rattle.cuwajimo.specs.BuildLines.{IsFlat, IsRaw, IsRawInMemory, IsMaster, IsRun, IsUnit, IsSingle, IsAny, IsOverImage, IsOfDevice, Builds};
 ghost use Rattle.cuwajimo.specs.Lines.{line_words};
 ghost use Rattle.cuwajimo.specs.Plans.{first_set, FillAdded};
 ghost use Rattle.cuwajimo.specs.Readings.{Reads, ReadsInMemory};
 ghost use Rattle.cuwajimo.specs.Troubles.{Blamed};
 
 use super::line::Line;
-use super::plan::{Fill, Plan, Source};
+use super::plan::{Fill, MasterSource, Plan, Source};
 use super::trouble::{Spot, Trouble};
 use super::words::is_number;
 use flex::geometry::Geometry;
@@ -60,6 +60,21 @@ fn raw_in_memory(line: Line<'_>) -> Result<Source, Trouble>
         );
     }
     Ok(Source::Raw { records, spares })
+}
+
+/// `master N P`, or `master FILE`.
+fn master(line: Line<'_>) -> Result<MasterSource, Trouble>
+    ensures { ReadsInMemory line.entry.spot.line (IsMaster line.entry.spot.line (line_words line.entry)) result }
+{
+    if is_number(line.word(1)?) {
+        let blocks = line.number(1)?;
+        let pattern = line.number(2)?;
+        line.end(3)?;
+        return Ok(MasterSource::Pattern { blocks, pattern });
+    }
+    let file = line.file(1)?;
+    line.end(2)?;
+    Ok(MasterSource::File(file))
 }
 
 /// A layer's run, of which there is at most one.
@@ -140,6 +155,7 @@ impl Plan {
             Some("flat") => self.set_source(line.spot, flat(line)?),
             Some("raw") => self.set_source(line.spot, raw(line)?),
             Some("pattern") => add_fill(line.spot, self, Fill::Pattern(single(line)?)),
+            Some("master") => self.set_master(line.spot, master(line)?),
             Some("damage") => add_fill(line.spot, self, Fill::Damage(line.numbers(1)?)),
             _ => self.read_layer(line),
         }
@@ -151,6 +167,14 @@ impl Plan {
         ensures line { Blamed spot.line result }
     {
         set_once(spot, &mut self.source, source, "a second image")
+    }
+
+    fn set_master(&mut self, spot: Spot, master: MasterSource) -> Result<(), Trouble>
+        ensures answer { is_ok result ≡ not (is_some self.old.master) }
+        ensures after { self.new ≡ record self.old { master = first_set self.old.master master } }
+        ensures line { Blamed spot.line result }
+    {
+        set_once(spot, &mut self.master, master, "a second master")
     }
 
     fn read_layer(&mut self, line: Line<'_>) -> Result<(), Trouble>

@@ -1,6 +1,6 @@
 ghost use Rattle.std.specs.Prelude.{◌≡◌, if◌then◌else◌, Some, None, is_some, slice_get};
 ghost use Rattle.std.specs.Result.{result_ok};
-ghost use Rattle.cuwajimo.specs.CallLines.{IsFilling, AsksFor, IsBlocks, IsCommonLine, IsCallOn, NamesHostAct, NamesCommon, NamesCall};
+ghost use Rattle.cuwajimo.specs.CallLines.{IsFilling, AsksFor, IsBlocks, IsCompare, IsCommonLine, IsCallOn, NamesHostAct, NamesCommon, NamesCall};
 ghost use Rattle.cuwajimo.specs.Calls.{host_act_name, act_name, is_off_act};
 ghost use Rattle.cuwajimo.specs.Lines.{line_words};
 ghost use Rattle.cuwajimo.specs.Readings.{Reads, ReadsInMemory, ReadsNamed, ReadsNamedInMemory};
@@ -8,6 +8,7 @@ ghost use Rattle.cuwajimo.specs.Troubles.{Blamed};
 
 use super::line::Line;
 use super::trouble::Trouble;
+use layer::run::Run;
 use std::fmt;
 
 /// The bytes that a buffer is made of: so many, these over and over, or zero if there are none.
@@ -38,6 +39,8 @@ pub enum Act {
     Activity,
     Off,
     Blocks { first: u32, count: u32 },
+    /// a run of the pile's blocks with one of the master's
+    Compare { pile: Run, master: Run },
     Save,
 }
 
@@ -77,6 +80,7 @@ impl fmt::Display for Act {
             Act::Activity => f.write_str("activity"),
             Act::Off => f.write_str("off"),
             Act::Blocks { first: _, count: _ } => f.write_str("blocks"),
+            Act::Compare { pile: _, master: _ } => f.write_str("compare"),
             Act::Save => f.write_str("save"),
         }
     }
@@ -137,6 +141,7 @@ fn common_act(line: Line<'_>) -> Result<Option<Act>, Trouble>
         Some("off") => alone(line, 1, Act::Off),
         Some("save") => alone(line, 1, Act::Save),
         Some("blocks") => Ok(Some(blocks(line)?)),
+        Some("compare") => Ok(Some(compare(line)?)),
         _ => Ok(None),
     }
 }
@@ -149,6 +154,22 @@ fn blocks(line: Line<'_>) -> Result<Act, Trouble>
     let count = line.number(2)?;
     line.end(3)?;
     Ok(Act::Blocks { first, count })
+}
+
+/// `compare F N G M`
+fn compare(line: Line<'_>) -> Result<Act, Trouble>
+    ensures { Reads line.entry.spot.line (IsCompare (line_words line.entry)) result }
+{
+    let pile = Run {
+        first: line.number(1)?,
+        count: line.number(2)?,
+    };
+    let master = Run {
+        first: line.number(3)?,
+        count: line.number(4)?,
+    };
+    line.end(5)?;
+    Ok(Act::Compare { pile, master })
 }
 
 /// A call's line, or none where its first word is no call's.

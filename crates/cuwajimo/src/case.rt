@@ -7,6 +7,7 @@ ghost use Rattle.cuwajimo.specs.Calls.{calls_on, calls_off, first_of, CallAdded}
 use super::call::Call;
 use super::plan::Plan;
 use super::trouble::Trouble;
+use master::master::Master;
 use std::alloc::Global;
 
 /// What stands between two `reset` lines: the building lines, the calls before the first `off`, and the calls from it on.
@@ -51,9 +52,10 @@ impl Case {
     }
 }
 
-/// A case that is carried out, and the runtime to read, print and write by.
+/// A case that is carried out, its master if it has one, and the runtime to read, print and write by.
 #[derive(Clone, Copy)]
-pub struct CaseRun<'a> {
+pub struct CaseRun<'a, 'm> {
     pub(super) rt: &'a HostRuntime,
     pub(super) case: &'a Case,
+    pub(super) master: Option<Master<'m>>,
 }

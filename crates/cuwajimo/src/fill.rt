@@ -41,7 +41,7 @@ fn pattern_byte(p: u32, block: u32, place: u32) -> u8
 }
 
 /// The bytes that pattern `p` has in a block.
-fn pattern(p: u32, block: u32) -> [u8; BLOCK_BYTES]
+pub(super) fn pattern(p: u32, block: u32) -> [u8; BLOCK_BYTES]
     ensures { result ≡ pattern_block p block }
 {
     let mut bytes = [0u8; BLOCK_BYTES];

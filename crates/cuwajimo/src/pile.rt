@@ -124,7 +124,12 @@ pub(super) trait Job {
     // What it comes to: of a case, the pile's blocks before it, the outcome, the blocks after it, and what an output is known to hold before and after.
     ghost comes: { Self → Case → List Block → Result Outcome Trouble → List Block → Option (List ℕ) → Option (List ℕ) → Type 0 };
 
-    fn perform<S: Store, W: io::Write>(&self, out: &mut W, run: CaseRun<'_>, store: S) -> Ended<S>
+    fn perform<S: Store, W: io::Write>(
+        &self,
+        out: &mut W,
+        run: CaseRun<'_, '_>,
+        store: S,
+    ) -> Ended<S>
         ensures comes { comes self.now run.entry.case.now (S.blocks store) result.outcome (S.blocks result.store) (W.contents out.old) (W.contents out.new) }
         ensures base { S.base_of result.store ≡ S.base_of store };
 }
@@ -136,7 +141,12 @@ pub(super) struct Serve;
 impl Job for Serve {
     ghost comes = { λ job case before outcome after old new. IfOk outcome (λ o. Serves case before o after old new) };
 
-    fn perform<S: Store, W: io::Write>(&self, out: &mut W, run: CaseRun<'_>, store: S) -> Ended<S> {
+    fn perform<S: Store, W: io::Write>(
+        &self,
+        out: &mut W,
+        run: CaseRun<'_, '_>,
+        store: S,
+    ) -> Ended<S> {
         run.serve(out, store)
     }
 }
@@ -154,7 +164,7 @@ impl Job for Show {
     fn perform<S: Store, W: io::Write>(
         &self,
         out: &mut W,
-        _run: CaseRun<'_>,
+        _run: CaseRun<'_, '_>,
         mut store: S,
     ) -> Ended<S> {
         let shown = show_blocks(out, &mut store, self.first, self.count);
@@ -173,7 +183,7 @@ fn layered<S: Store>(plan: &Plan, image: S) -> WriteGuard<Window<S>>
     WriteGuard::new(Window::new(image, plan.shown()), plan.guarded())
 }
 
-impl CaseRun<'_> {
+impl CaseRun<'_, '_> {
     /// Does a job on the case's whole pile over an image: window, write guard and, if its plan asks for one, a cache.
     fn over_image<S: Store, J: Job, W: io::Write>(
         self,

@@ -32,6 +32,15 @@ pub enum Source {
     },
 }
 
+/// Where the master comes from.
+#[derive(Drop)]
+pub enum MasterSource {
+    /// so many blocks of a pattern, in memory
+    Pattern { blocks: u32, pattern: u32 },
+    /// a file's bytes
+    File(ImageFile),
+}
+
 /// What is done to the image before it is used.
 #[derive(Drop)]
 pub enum Fill {
@@ -44,6 +53,7 @@ pub enum Fill {
 pub struct Plan {
     pub source: Option<Source>,
     pub fills: Vec<Fill>,
+    pub master: Option<MasterSource>,
     pub protection: Protection,
     pub window: Option<Run>,
     pub guard: Option<Run>,
@@ -54,13 +64,14 @@ pub struct Plan {
 }
 
 impl Plan {
-    /// No image, no layer, no unit.
+    /// No image, no master, no layer, no unit.
     pub(super) fn new(heap: Global) -> Plan
         ensures { NothingAsked result }
     {
         Plan {
             source: None,
             fills: Vec::new(heap),
+            master: None,
             protection: Protection::Open,
             window: None,
             guard: None,

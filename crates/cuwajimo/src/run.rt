@@ -3,20 +3,25 @@ ghost use Rattle.std.specs.Io.KnownBytes.{Appends};
 ghost use Rattle.cuwajimo.specs.declared.session.Outcome.TheVariants.{Refused};
 ghost use Rattle.cuwajimo.specs.Calls.{calls_off, calls_on};
 ghost use Rattle.cuwajimo.specs.Left.{PileStays};
-ghost use Rattle.cuwajimo.specs.Media.{medium_refusal};
+ghost use Rattle.cuwajimo.specs.Masters.{meant_by};
+ghost use Rattle.cuwajimo.specs.Media.{medium_offered, medium_refusal};
+ghost use Rattle.cuwajimo.specs.Plans.{pile_blocks};
 ghost use Rattle.cuwajimo.specs.Troubles.{CannotPrint};
-ghost use Rattle.cuwajimo.specs.Printed.{AfterOff, AreRun, FromOff, IsRun, Prints, RunOver, nothing_lines, off_lines, refused_line, save_line, saved_of, saved_word};
+ghost use Rattle.cuwajimo.specs.Printed.{AfterOff, AreRun, FromOff, IsRun, Prints, RunOver, compared_lines, nothing_lines, off_lines, refused_line, save_line, saved_of, saved_word};
 
 use super::call::{Act, Call};
 use super::case::{Case, CaseRun};
+use super::comparison::Compare;
 use super::fill::prepare;
+use super::masters::{load_master, master_over};
 use super::medium::{Medium, load};
 use super::pile::{Serve, Show};
-use super::plan::Source;
+use super::plan::{MasterSource, Source};
 use super::say;
 use super::session::Outcome;
 use super::trouble::{Spot, Trouble};
 use image::refusal::Refusal;
+use layer::run::Run;
 use std::fmt;
 use std::io::Write;
 
@@ -58,6 +63,9 @@ pub(super) fn check_files(rt: &HostRuntime, cases: &[Case]) -> Result<(), Troubl
                 beside.check(rt)?;
             }
             _ => {}
+        }
+        if let Some(MasterSource::File(file)) = &case.plan.master {
+            file.check(rt)?;
         }
     }
     Ok(())
@@ -138,7 +146,27 @@ fn decided<W: Write>(
     }
 }
 
-impl CaseRun<'_> {
+impl CaseRun<'_, '_> {
+    /// Compares a run of the pile's blocks with a run of the master's, if there is one.
+    fn compare<W: Write>(
+        self,
+        out: &mut W,
+        medium: &mut Medium,
+        pile: Run,
+        master: Run,
+    ) -> Result<(), Trouble>
+        ensures printed { OnOk result (Appends (W.contents out.old) (W.contents out.new) (compared_lines (medium_refusal medium.old) (pile_blocks self.entry.case.now.plan (medium_offered medium.old self.entry.case.now.plan.protection)) pile (meant_by self.entry.master) master)) }
+        ensures left { OnOk result (PileStays self.entry.case.now.plan medium.old medium.new) }
+    {
+        let Some(of) = self.master else {
+            writeln!(out, "compare: no master")?;
+            return Ok(());
+        };
+        let compared = self.on_pile(out, medium, &Compare { pile, of, master });
+        decided(out, compared)?;
+        Ok(())
+    }
+
     /// One call after the device is off.
     fn answer_off<W: Write>(
         self,
@@ -147,7 +175,7 @@ impl CaseRun<'_> {
         medium: &mut Medium,
         call: &Call,
     ) -> Result<(), Trouble>
-        ensures printed { OnOk result (Appends (W.contents out.old) (W.contents out.new) (off_lines self.entry.case.now.plan source.now medium.old call.now.act)) }
+        ensures printed { OnOk result (Appends (W.contents out.old) (W.contents out.new) (off_lines self.entry.case.now.plan source.now medium.old (meant_by self.entry.master) call.now.act)) }
         ensures left { OnOk result (PileStays self.entry.case.now.plan medium.old medium.new) }
     {
         match &call.act {
@@ -158,6 +186,7 @@ impl CaseRun<'_> {
                 decided(out, shown)?;
                 Ok(())
             }
+            Act::Compare { pile, master } => self.compare(out, medium, *pile, *master),
             Act::Save => save(self.rt, out, call.line, source, medium),
             act => say::nothing(out, act),
         }
@@ -171,7 +200,7 @@ impl CaseRun<'_> {
         medium: &mut Medium,
         calls: &[Call],
     ) -> Result<(), Trouble>
-        ensures { OnOk result (Prints (AfterOff self.entry.case.now.plan source.now medium.old calls.now) (W.contents out.old) (W.contents out.new)) }
+        ensures { OnOk result (Prints (AfterOff self.entry.case.now.plan source.now medium.old (meant_by self.entry.master) calls.now) (W.contents out.old) (W.contents out.new)) }
     {
         for call in calls {
             self.answer_off(out, source, medium, call)?;
@@ -186,7 +215,7 @@ impl CaseRun<'_> {
         source: &Source,
         medium: &mut Medium,
     ) -> Result<(), Trouble>
-        ensures { OnOk result (Prints (FromOff self.entry.case.now.plan source.now medium.old (calls_off self.entry.case.now)) (W.contents out.old) (W.contents out.new)) }
+        ensures { OnOk result (Prints (FromOff self.entry.case.now.plan source.now medium.old (meant_by self.entry.master) (calls_off self.entry.case.now)) (W.contents out.old) (W.contents out.new)) }
     {
         let Some((_, after)) = self.case.off.as_slice().split_first() else {
             return Ok(());
@@ -211,7 +240,7 @@ impl CaseRun<'_> {
         source: &Source,
         medium: &mut Medium,
     ) -> Result<(), Trouble>
-        ensures { OnOk result (Prints (RunOver (medium_refusal medium.old) self.entry.case.now source.now medium.old) (W.contents out.old) (W.contents out.new)) }
+        ensures { OnOk result (Prints (RunOver (medium_refusal medium.old) self.entry.case.now source.now medium.old (meant_by self.entry.master)) (W.contents out.old) (W.contents out.new)) }
     {
         let served = self.on_pile(out, medium, &Serve);
         match decided(out, served)? {
@@ -219,26 +248,27 @@ impl CaseRun<'_> {
             Outcome::Refused => self.decline(out),
         }
     }
+}
 
-    /// Carries the case out, if it has any call.
-    fn run<W: Write>(self, out: &mut W) -> Result<(), Trouble>
-        ensures { OnOk result (Prints (IsRun self.entry.case.now) (W.contents out.old) (W.contents out.new)) }
-    {
-        let Some(first) = self.case.first() else {
-            return Ok(());
-        };
-        let spot = Spot {
-            heap: self.rt.alloc(),
-            line: first.line,
-        };
-        let plan = &self.case.plan;
-        let Some(source) = &plan.source else {
-            return Err(spot.trouble("a call, and no image to make it on"));
-        };
-        let mut medium = load(self.rt, source)?;
-        prepare(&mut medium, plan.fills.as_slice());
-        self.run_over(out, source, &mut medium)
-    }
+/// Carries a case out, if it has any call.
+fn run_case<'a, W: Write>(rt: &'a HostRuntime, out: &mut W, case: &'a Case) -> Result<(), Trouble>
+    ensures { OnOk result (Prints (IsRun case.now) (W.contents out.old) (W.contents out.new)) }
+{
+    let Some(first) = case.first() else {
+        return Ok(());
+    };
+    let spot = Spot {
+        heap: rt.alloc(),
+        line: first.line,
+    };
+    let Some(source) = &case.plan.source else {
+        return Err(spot.trouble("a call, and no image to make it on"));
+    };
+    let mut medium = load(rt, source)?;
+    prepare(&mut medium, case.plan.fills.as_slice());
+    let memory = load_master(rt, &case.plan.master)?;
+    let master = master_over(&memory);
+    CaseRun { rt, case, master }.run_over(out, source, &mut medium)
 }
 
 /// Carries out each case in turn.
@@ -246,7 +276,7 @@ pub(super) fn run<W: Write>(rt: &HostRuntime, out: &mut W, cases: &[Case]) -> Re
     ensures { OnOk result (Prints (AreRun cases.now) (W.contents out.old) (W.contents out.new)) }
 {
     for case in cases {
-        CaseRun { rt, case }.run(out)?;
+        run_case(rt, out, case)?;
     }
     Ok(())
 }

@@ -196,7 +196,8 @@ impl Act {
         ensures { result.now ≡ needed self.now }
     {
         match self {
-            Act::Blocks { first: _, count: _ } | Act::Save => "store",
+            Act::Blocks { first: _, count: _ } | Act::Compare { pile: _, master: _ } | Act::Save =>
+                "store",
             _ => "device",
         }
     }

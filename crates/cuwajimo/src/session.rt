@@ -76,7 +76,7 @@ fn refuse<W: Write>(out: &mut W, status: Status) -> Result<Outcome, Trouble>
     Ok(Outcome::Refused)
 }
 
-impl CaseRun<'_> {
+impl CaseRun<'_, '_> {
     /// One call of a host.
     fn answer_host<S: Store, W: Write>(
         self,

@@ -12,12 +12,12 @@ loop-case-preserved g c =
     let before = c.loop-case.invariant in
     let i = c.loop-case.case-index in
     let case = c.case-item.result in
-    let now = c.in_ok-run.ensures in
+    let now = c.in_ok-run_case.ensures in
     let split : case ∷ drop (i + 1) cases ≡ drop i cases =
     ap (λ (x : Case). x ∷ drop (i + 1) cases) c.case-item.is
     ∙ sym (at_drop_more (λ (cs : List Case). cs) cases i case c.loop-case-test.true) in (
       before.0 ++ now.0,
-      Appends-trans (g.W.Write.contents c.args.out.now) (g.W.Write.contents c.loop-case.out) (g.W.Write.contents c.run.new.out) before.0 now.0 before.1 now.2,
+      Appends-trans (g.W.Write.contents c.args.out.now) (g.W.Write.contents c.loop-case.out) (g.W.Write.contents c.run_case.new.out) before.0 now.0 before.1 now.2,
       λ text is.
           subst (AreRun cases) (sym (append_assoc before.0 now.0 text))
           (before.2 (now.0 ++ text) (subst (λ (cs : List Case). AreRun cs (now.0 ++ text)) split (now.0, text, now.1, is, refl))),

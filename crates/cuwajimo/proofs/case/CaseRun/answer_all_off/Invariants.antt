@@ -1,5 +1,6 @@
 use Rattle.std.proofs.Common.{ℕ, List, ◌++◌, drop}
 use Rattle.std.specs.Io.KnownBytes.{Appends}
+use Rattle.cuwajimo.specs.Masters.{meant_by}
 use Rattle.cuwajimo.specs.Printed.{AfterOff}
 use Rattle.cuwajimo.proofs.case.CaseRun.answer_all_off.Given as goal
 
@@ -7,6 +8,7 @@ use Rattle.cuwajimo.proofs.case.CaseRun.answer_all_off.Given as goal
 abbrev pub invariant-loop-call : goal.invariant-loop-call
 invariant-loop-call g l =
     let plan = l.self.case.now.plan in
+    let of = meant_by l.self.master in
     (so_far : List ℕ)
     × Appends (g.W.Write.contents l.initial.out) (g.W.Write.contents l.out) so_far
-    × ((rest : List ℕ) → AfterOff plan l.source l.medium (drop l.call-index l.calls) rest → AfterOff plan l.source l.initial.medium l.calls (so_far ++ rest))
+    × ((rest : List ℕ) → AfterOff plan l.source l.medium of (drop l.call-index l.calls) rest → AfterOff plan l.source l.initial.medium of l.calls (so_far ++ rest))

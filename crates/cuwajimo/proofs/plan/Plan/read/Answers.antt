@@ -5,11 +5,12 @@ use Rattle.std.proofs.lemmas.List.{map-id}
 use Rattle.std.proofs.lemmas.Option.{none-some}
 use Rattle.std.proofs.lemmas.Result.{err_from_is_err_and}
 use Rattle.cuwajimo.specs.declared.plan.Fill.TheVariants.{Pattern, Damage}
+use Rattle.cuwajimo.specs.declared.plan.MasterSource.{MasterSource}
 use Rattle.cuwajimo.specs.declared.plan.Source.{Source}
-use Rattle.cuwajimo.specs.BuildLines.{HasRoom, IsAny, IsFlat, IsRaw}
+use Rattle.cuwajimo.specs.BuildLines.{HasRoom, IsAny, IsFlat, IsMaster, IsRaw}
 use Rattle.cuwajimo.specs.Lines.{line_words}
-use Rattle.cuwajimo.proofs.BuildNames.{only_flat, only_raw, only_pattern, only_damage}
-use Rattle.cuwajimo.proofs.Building.{refused_in_memory, image_built, fill_built}
+use Rattle.cuwajimo.proofs.BuildNames.{only_flat, only_raw, only_master, only_pattern, only_damage}
+use Rattle.cuwajimo.proofs.Building.{refused_in_memory, image_built, master_built, fill_built}
 use Rattle.cuwajimo.proofs.Images.{flat_line, raw_line}
 use Rattle.cuwajimo.proofs.Named.{reads_name}
 use Rattle.cuwajimo.proofs.plan.Plan.read.Goals as goal
@@ -75,3 +76,25 @@ returns-in_ok-numbers-in-Some-damage c =
     let named = reads_name (slice_get words 0) c.first.result c.in-Some-damage.field-0 (codes "damage") c.first.ensures c.in-Some-damage.is c.in-Some-damage.is-damage in
     fill_built line words plan c.add_fill-in-Some-damage.new.plan (codes "damage") named (Damage c.in_ok-numbers-in-Some-damage.field-0) c.add_fill-in-Some-damage.result (record { name = named; operands = c.in_ok-numbers-in-Some-damage.ensures.value ∙ ap Some (map-id (vec_items c.in_ok-numbers-in-Some-damage.field-0)) })
     (λ none. only_damage line words (λ b. HasRoom plan b → ⊥) named (λ x said room. false≢true (sym (ap is_some none) ∙ room))) c.add_fill-in-Some-damage.ensures.value c.add_fill-in-Some-damage.ensures.line
+
+pub returns-in_err-master-in-Some-master : goal.returns-in_err-master-in-Some-master
+returns-in_err-master-in-Some-master c =
+    let words = line_words c.args.line in
+    let line = c.args.line.spot.line in
+    let plan = c.args.self.now in
+    let named = reads_name (slice_get words 0) c.first.result c.in-Some-master.field-0 (codes "master") c.first.ensures c.in-Some-master.is c.in-Some-master.is-master in
+    let e = c.in_err-master-in-Some-master.field-0.0 in
+    let p = err_from_is_err_and c.from_residual-in_err-master-in-Some-master.result c.from_residual-in_err-master-in-Some-master.ensures.1 in
+    rw (p.1, p.2)
+    (refused_in_memory IsAny line words plan plan (codes "master") named e ((source : MasterSource) → IsMaster line words source → ⊥) c.in_err-master-in-Some-master.ensures.0 c.in_err-master-in-Some-master.ensures.1
+    (λ none. only_master line words (λ b. HasRoom plan b → ⊥) named (λ source said room. none source said)))
+
+pub returns-in_ok-master-in-Some-master : goal.returns-in_ok-master-in-Some-master
+returns-in_ok-master-in-Some-master c =
+    let words = line_words c.args.line in
+    let line = c.args.line.spot.line in
+    let plan = c.args.self.now in
+    let named = reads_name (slice_get words 0) c.first.result c.in-Some-master.field-0 (codes "master") c.first.ensures c.in-Some-master.is c.in-Some-master.is-master in
+    let source = c.in_ok-master-in-Some-master.field-0 in
+    master_built line words plan c.set_master.new.self (codes "master") named source c.set_master.result (record { name = named; operands = c.in_ok-master-in-Some-master.ensures })
+    (λ s is. only_master line words (λ b. HasRoom plan b → ⊥) named (λ other said room. none-some s (sym room ∙ is))) c.set_master.ensures.answer c.set_master.ensures.after c.set_master.ensures.line

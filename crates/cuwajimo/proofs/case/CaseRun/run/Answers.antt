@@ -1,9 +1,0 @@
-use Rattle.std.proofs.Common.{List, subst}
-use Rattle.cuwajimo.specs.declared.plan.Fill.{Fill}
-use Rattle.cuwajimo.specs.Left.{Prepared}
-use Rattle.cuwajimo.proofs.Running.{run_with}
-use Rattle.cuwajimo.proofs.case.CaseRun.run.Goals as goal
-
-pub returns : goal.returns
-returns g c =
-    run_with c.run_over.result c.args.self.case.now c.in-Some-source.source c.in_ok-medium.medium c.prepare.new.medium (g.W.Write.contents c.args.out.now) (g.W.Write.contents c.run_over.new.out) c.in-Some-source.is c.in_ok-medium.ensures (subst (λ (fills : List Fill). Prepared fills c.in_ok-medium.medium c.prepare.new.medium) c.as_slice.ensures.value c.prepare.ensures) c.run_over.ensures
