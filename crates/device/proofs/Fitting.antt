@@ -74,7 +74,7 @@ module _ (f : Fixed) (o : Option Message) (x : Host) (m : Mail) (os : List (Opti
 
 -- ---- The span of the next segment is in the transaction's unit.
 
-in_unit : (o : Option DiscUnit) (b : ℕ) → first_in o ≤ b → b < first_in o + blocks_of o → block_in (b - first_in o) o ≡ Some b
+pub in_unit : (o : Option DiscUnit) (b : ℕ) → first_in o ≤ b → b < first_in o + blocks_of o → block_in (b - first_in o) o ≡ Some b
 in_unit None b p q = absurd (omega arith)
 in_unit (Some u) b p q = let l : b - u.first < blocks_of (Some u) = omega arith in cond-true _ _ _ (lt-ltb _ _ l) ∙ ap Some (omega arith)
 

@@ -13,12 +13,15 @@ pub mod Congruence
 pub mod Own
 pub mod Others
 pub mod Runs
+pub mod Guarded
+pub mod Orders
 pub mod Laws
 pub mod Refusals
 pub mod Moving
 pub mod WholeBlocks
 pub mod Transfers
 pub mod Sample
+pub mod OrdersSample
 pub mod Small
 pub mod NoHost
 pub mod Describing

@@ -1,5 +1,5 @@
--- What a host does at home leaves the others as they are: their records, and every block that it does not guard.
-use Rattle.std.proofs.Common.{◌≡◌, ℕ, ◌+◌, ◌<◌, ◌≤◌, ◌≢◌, List, length, get_or, set, Some, None, Option, sym, refl, ap, ◌∙◌, subst, arith}
+-- What a host does at home leaves the others as they are: their answers, their records, and every block that it does not guard.
+use Rattle.std.proofs.Common.{◌≡◌, ℕ, false, ◌+◌, ◌<◌, ◌≤◌, ◌≢◌, List, length, get_or, set, Some, None, Option, sym, refl, ap, ◌∙◌, subst, inl, arith}
 use Rattle.std.proofs.lemmas.Bool.{cases_eq}
 use Rattle.std.specs.List.{slice_get}
 use Rattle.message.specs.declared.message.Message.{Message}
@@ -10,15 +10,15 @@ use Rattle.host.specs.Hosts.{blank, host_at, stands}
 use Rattle.host.specs.Messages.{wanted}
 use Rattle.device.specs.Calls.{Call, by}
 use Rattle.transfer.specs.Segments.{span}
-use Rattle.device.specs.Device.{State, host_of, fixed, blocked, asked, in_way, start, reach, next}
-use Rattle.device.specs.Isolation.{Guards, KeepsAt}
+use Rattle.device.specs.Device.{State, host_of, fixed, blocked, asked, in_way, start, reach, answer, next}
+use Rattle.device.specs.Isolation.{Guards, KeepsAt, is_notice}
 use Rattle.device.proofs.Tests.{one_of}
 use Rattle.device.proofs.Standing.{any_none, another_same, stands_blank}
 use Rattle.transfer.proofs.Spans.{span_alike, set_alike}
 use Rattle.device.proofs.Steps.{did, fixed_next, map_next, host_other, hosts_next, hosts_kept, block_kept}
 use Rattle.device.proofs.States.{Sound, sound_next}
 use Rattle.device.proofs.Keeping.{Home, Like, like_trans, like_sym, guards_like, other_span, own_span}
-use Rattle.device.proofs.Congruence.{asked_alike, did_alike, block_alike}
+use Rattle.device.proofs.Congruence.{asked_alike, did_alike, answer_alike, block_alike}
 use Rattle.device.proofs.Own.{kept_at}
 
 -- At home, what a host does under its locks is in nobody's way that the locks are not in already.
@@ -81,6 +81,10 @@ module _ (s t : State) (c : Call) (h : ℕ) (x : Host) (n : by c ≢ h) (r : For
 
   span_same : span s.blocks (start s (by c)) (reach s (by c)) ≡ span t.blocks (start s (by c)) (reach s (by c))
   span_same = span_alike s.blocks t.blocks (start s (by c)) (reach s (by c)) (λ b p q. r.blocks b (not_guarded b p q))
+
+  -- Its answer is the same, but to a notice call.
+  pub answer_theirs : is_notice c ≡ false → answer s c ≡ answer t c
+  answer_theirs q = answer_alike s t c r.fixed way_same caller span_same (inl q)
 
   host_same : (g : ℕ) → g ≢ h → host_of (next s c) g ≡ host_of (next t c) g
   host_same g m =

@@ -21,7 +21,7 @@ use Rattle.device.proofs.Steps.{fixed_next, map_next, host_other, host_own, host
 use Rattle.device.proofs.States.{Sound, sound_next}
 use Rattle.device.proofs.Holding.{Held, did_held, gives_across}
 use Rattle.device.proofs.Keeping.{Home, Like, like_trans, like_sym, like_device, guards_like, kept, clear_way, free_way, other_span, own_span}
-use Rattle.device.proofs.Congruence.{asked_alike, did_alike, answer_alike, block_alike}
+use Rattle.device.proofs.Congruence.{same_map, asked_alike, did_alike, answer_alike, block_alike}
 
 -- The same to the host h, whose locks are those of x.
 pub record Alike (h : ℕ) (x : Host) (s t : State) : Type 0 where
@@ -34,6 +34,19 @@ pub record Alike (h : ℕ) (x : Host) (s t : State) : Type 0 where
   pub like : Like x (host_of s h)
   pub blocks : (b : ℕ) → Guards s.map x b → slice_get s.blocks b ≡ slice_get t.blocks b
   pub mail : x.locks.device ≡ true → mail_of s h ≡ mail_of t h
+
+pub alike_sym : (h : ℕ) (x : Host) (s t : State) → Alike h x s t → Alike h x t s
+alike_sym h x s t r = record {
+  left = r.right;
+  right = r.left;
+  fixed = sym r.fixed;
+  here = (r.here.1, r.here.0);
+  same = sym r.same;
+  home = subst Home r.same r.home;
+  like = subst (Like x) r.same r.like;
+  blocks = λ b g. sym (r.blocks b (subst (λ (m : UnitMap). Guards m x b) (sym (same_map s t r.fixed)) g));
+  mail = λ d. sym (r.mail d);
+}
 
 settled_clear : (hs ks : List Host) (g : ℕ) (o : Option Want) (m : Mail) → ((w : Want) → another (stands w) g hs ≡ false) → ((w : Want) → another (stands w) g ks ≡ false) → settled_by hs g o m ≡ settled_by ks g o m
 settled_clear hs ks g None m p q = refl

@@ -1,5 +1,5 @@
 -- Over whole runs: a run against a host's own calls alone, and against the others' alone.
-use Rattle.std.proofs.Common.{◌≡◌, ℕ, ◌<◌, Bool, true, false, cond, not, ◌⊎◌, List, [], ◌∷◌, length, filter, sym, refl, ap, ◌∙◌, subst, inl, inr}
+use Rattle.std.proofs.Common.{◌≡◌, ℕ, ◌<◌, Bool, true, false, cond, not, ◌&&◌, ◌⊎◌, List, [], ◌∷◌, length, filter, sym, refl, ap, ◌∙◌, subst, inl, inr}
 use Rattle.std.proofs.lemmas.List.{get_or_past}
 use Rattle.std.proofs.lemmas.Bool.{cases_lt, eqb-true, eqb-false, and_parts, not-true}
 use Rattle.std.specs.List.{slice_get}
@@ -8,13 +8,13 @@ use Rattle.host.specs.declared.record.Host.{Host}
 use Rattle.host.specs.Hosts.{blank}
 use Rattle.device.specs.Calls.{Call, by}
 use Rattle.device.specs.Device.{State, host_of, answer, next, run}
-use Rattle.device.specs.Isolation.{Guards, Holds, KeepsAt, KeepsIn, by_host, by_others, by_host_but_notices, answers, is_notice, Isolated, IsolationFrom, Isolation}
+use Rattle.device.specs.Isolation.{Guards, Holds, KeepsAt, KeepsIn, by_host, by_others, by_host_but_notices, by_others_but_notices, answers, is_notice, Isolated, IsolationFrom, Isolation}
 use Rattle.device.specs.Laws.{SideBySide, ApartnessFrom, Apartness}
 use Rattle.device.proofs.Tests.{clash, one_of}
 use Rattle.device.proofs.States.{Sound, sound_on, sound_run, map_run}
 use Rattle.device.proofs.Keeping.{Home, home_from, like_self}
-use Rattle.device.proofs.Own.{Alike, own_step, answer_own, other_step, keeps_across}
-use Rattle.device.proofs.Others.{Foreign, mine_step, theirs_step}
+use Rattle.device.proofs.Own.{Alike, alike_sym, own_step, answer_own, other_step, keeps_across}
+use Rattle.device.proofs.Others.{Foreign, mine_step, theirs_step, answer_theirs}
 
 module _ (h : ℕ) (x : Host) where
   -- What a call's answer can tell apart.
@@ -36,7 +36,7 @@ module _ (h : ℕ) (x : Host) where
   across_at s t c e = subst (λ (k : ℕ). Alike k x s t → KeepsAt t k c → KeepsAt s k c) e (keeps_across s t c x)
 
   -- Who keeps to its units alone keeps to them among the others.
-  keeps_among : (f : List Call) (s t : State) → Alike h x s t → KeepsIn h t (filter (by_host h) f) → KeepsIn h s f
+  pub keeps_among : (f : List Call) (s t : State) → Alike h x s t → KeepsIn h t (filter (by_host h) f) → KeepsIn h s f
   keeps_among [] s t r k = tt
   keeps_among (c ∷ f) s t r k = go (keeps_among f) (by_host h c) refl k
     where
@@ -47,6 +47,18 @@ module _ (h : ℕ) (x : Host) where
           ((λ _. a), ih (next s c) (next t c) (own_at s t c i r a).0 k.1)
       go ih false e k =
           ((λ d. clash (by_host h c) d e), ih (next s c) t (other_step s t c h x (λ d. eqb-false (by c) h e (sym d)) r) k)
+
+  -- And who keeps to them among the others keeps to them alone.
+  pub keeps_alone : (f : List Call) (s t : State) → Alike h x s t → KeepsIn h s f → KeepsIn h t (filter (by_host h) f)
+  keeps_alone [] s t r k = tt
+  keeps_alone (c ∷ f) s t r k = go (keeps_alone f) (by_host h c) refl
+    where
+      go : ((s t : State) → Alike h x s t → KeepsIn h s f → KeepsIn h t (filter (by_host h) f)) → (b : Bool) → by_host h c ≡ b → KeepsIn h t (cond b (c ∷ filter (by_host h) f) (filter (by_host h) f))
+      go ih true e =
+          let i = eqb-true (by c) h e in
+          let a = across_at t s c i (alike_sym h x s t r) (k.0 e) in
+          ((λ _. a), ih (next s c) (next t c) (own_at s t c i r (k.0 e)).0 k.1)
+      go ih false e = ih (next s c) t (other_step s t c h x (λ d. eqb-false (by c) h e (sym d)) r) k.1
 
   own_run : (f : List Call) (s t : State) → Alike h x s t → KeepsIn h s f → Alike h x (run s f) (run t (filter (by_host h) f))
   own_run [] s t r k = r
@@ -80,6 +92,19 @@ module _ (h : ℕ) (x : Host) where
       go ih true e = ih (next s c) t (mine_at s t c (eqb-true (by c) h e) r (k.0 e)) k.1
       go ih false e = ih (next s c) (next t c) (theirs_step s t c h x (eqb-false (by c) h e) r) k.1
 
+  their_answers_run : (f : List Call) (s t : State) → Foreign h x s t → KeepsIn h s f → answers (by_others_but_notices h) s f ≡ answers (by_others_but_notices h) t (filter (by_others h) f)
+  their_answers_run [] s t r k = refl
+  their_answers_run (c ∷ f) s t r k = go (their_answers_run f) (by_host h c) (is_notice c) refl refl
+    where
+      go : ((s t : State) → Foreign h x s t → KeepsIn h s f → answers (by_others_but_notices h) s f ≡ answers (by_others_but_notices h) t (filter (by_others h) f)) → (b q : Bool) → by_host h c ≡ b → is_notice c ≡ q → cond (not b && not q) (answer s c ∷ answers (by_others_but_notices h) (next s c) f) (answers (by_others_but_notices h) (next s c) f) ≡ answers (by_others_but_notices h) t (cond (not b) (c ∷ filter (by_others h) f) (filter (by_others h) f))
+      go ih true q e d = ih (next s c) t (mine_at s t c (eqb-true (by c) h e) r (k.0 e)) k.1
+      go ih false true e d = rw (e, d) (ih (next s c) (next t c) (theirs_step s t c h x (eqb-false (by c) h e) r) k.1)
+      go ih false false e d =
+          let n = eqb-false (by c) h e in
+          let rest = ih (next s c) (next t c) (theirs_step s t c h x n r) k.1 in
+          let head = answer_theirs s t c h x n r d in
+          rw (e, d) (cc)
+
 only_own : (h : ℕ) (x : Host) (c : Call) → by_host_but_notices h c ≡ true → (by_host h c ≡ true) × Heard h x c
 only_own h x c q = let a = and_parts (by_host h c) (not (is_notice c)) q in (a.0, inl (not-true (is_notice c) a.1))
 
@@ -92,7 +117,7 @@ holds_here : (s : State) (h : ℕ) → Holds (host_of s h) → h < length s.host
 holds_here s h l = one_of (cases_lt h (length s.hosts)) (λ i. i) (λ past. absurd (blank_holds (subst Holds (get_or_past s.hosts h blank past) l)))
 
 module _ (s : State) (h : ℕ) (i : Sound s) (holds : Holds (host_of s h)) (home : Home (host_of s h)) where
-  alike : Alike h (host_of s h) s s
+  pub alike : Alike h (host_of s h) s s
   alike = record {
     left = i;
     right = i;
@@ -118,7 +143,7 @@ module _ (s : State) (h : ℕ) (i : Sound s) (holds : Holds (host_of s h)) (home
     blocks = λ b _. refl;
   }
 
-  among : (f : List Call) → KeepsIn h s f → SideBySide h s f (filter (by_host h) f) (filter (by_others h) f)
+  pub among : (f : List Call) → KeepsIn h s f → SideBySide h s f (filter (by_host h) f) (filter (by_others h) f)
   among f k =
       let r = own_run h (host_of s h) f s s alike k in
       let o = others_run h (host_of s h) f s s foreign k in
@@ -127,6 +152,7 @@ module _ (s : State) (h : ℕ) (i : Sound s) (holds : Holds (host_of s h)) (home
         noticed = λ d. answers_run h (host_of s h) (by_host h) (λ c q. (q, inr d)) f s s alike k;
         its_record = r.same;
         its_blocks = λ b q. r.blocks b (subst (λ (m : UnitMap). Guards m (host_of s h) b) (sym (map_run s f)) q);
+        their_answers = their_answers_run h (host_of s h) f s s foreign k;
         their_records = λ g n. o.same g n;
         their_blocks = λ b q. o.blocks b (λ y. q (subst (λ (m : UnitMap). Guards m (host_of s h) b) (map_run s f) y));
       }

@@ -118,6 +118,10 @@ is_notice (fault h) = false
 abbrev pub by_host_but_notices : ℕ → Call → Bool
 by_host_but_notices h c = by_host h c && not (is_notice c)
 
+-- The call is the others', and is no notice call.
+abbrev pub by_others_but_notices : ℕ → Call → Bool
+by_others_but_notices h c = by_others h c && not (is_notice c)
+
 -- What two continuations f and g from s have in common for host h.
 pub record Isolated (h : ℕ) (s : State) (f g : List Call) : Type 0 where
   -- each of its calls has the same answer and leaves the same buffer, the notice call only under the device's lock

@@ -8,7 +8,7 @@ use Rattle.host.specs.declared.want.Want.{Want}
 use Rattle.host.specs.Hosts.{locked, on, stands, another}
 use Rattle.device.specs.Calls.{Call}
 use Rattle.device.specs.Device.{State, host_of, mail_of, run, power_on}
-use Rattle.device.specs.Isolation.{Guards, Holds, Keeps, answers, by_host, by_others, by_host_but_notices}
+use Rattle.device.specs.Isolation.{Guards, Holds, Keeps, answers, by_host, by_others, by_host_but_notices, by_others_but_notices}
 
 -- ---- Exclusion.
 
@@ -56,7 +56,8 @@ pub record SideBySide (h : ℕ) (s : State) (f mine theirs : List Call) : Type 0
   pub noticed : (host_of s h).locks.device ≡ true → answers (by_host h) s f ≡ answers (by_host h) s mine
   pub its_record : host_of (run s f) h ≡ host_of (run s mine) h
   pub its_blocks : (b : ℕ) → Guards s.map (host_of s h) b → slice_get (run s f).blocks b ≡ slice_get (run s mine).blocks b
-  -- for the others: their records, and every other block
+  -- for the others: their answers but the notice call's, their records, and every other block
+  pub their_answers : answers (by_others_but_notices h) s f ≡ answers (by_others_but_notices h) s theirs
   pub their_records : (g : ℕ) → g ≢ h → host_of (run s f) g ≡ host_of (run s theirs) g
   pub their_blocks : (b : ℕ) → (Guards s.map (host_of s h) b → ⊥) → slice_get (run s f).blocks b ≡ slice_get (run s theirs).blocks b
 

@@ -6,9 +6,11 @@ pub mod Isolation
 pub mod Laws
 pub mod Notices
 pub mod Faults
+pub mod Orders
 pub mod Refusals
 pub mod Transfers
 pub mod Sample
+pub mod Needed
+pub mod OrdersSample
 pub mod Small
 pub mod Describing
-pub mod Needed

@@ -8,6 +8,8 @@ ghost use Rattle.device.specs.Isolation.{IsolationFrom};
 ghost use Rattle.device.specs.Laws.{ApartnessFrom, ExclusionFrom, WaitsFrom};
 ghost use Rattle.device.specs.Notices.{NoticesFrom};
 ghost use Rattle.device.specs.Needed.{Needed};
+ghost use Rattle.device.specs.Orders.{EitherOrderFrom};
+ghost use Rattle.device.specs.OrdersSample.{EitherNeeded, EitherSampled};
 ghost use Rattle.device.specs.Refusals.{RefusalsFrom};
 ghost use Rattle.device.specs.Sample.{Sampled, SampledByDevice};
 ghost use Rattle.device.specs.Small.{Table};
@@ -208,6 +210,7 @@ impl<S: Store> Device<S> {
 /// Its state is the one `made`. Laws of every device so built, after any list of calls:
 /// - `isolation`: a host that holds locks and keeps to what they lock is alone there, whatever the others do.
 /// - `apartness`: any continuation is such a host's calls and the others' calls, side by side.
+/// - `either_order`: such a host's calls and the others' leave one history, however its calls fall between theirs.
 /// - `exclusion`: no two hosts hold what excludes one another.
 /// - `waits`: a host that waits has something in its way.
 /// - `notices`: when a wait begins and ends, and when a notice comes and goes, with which code.
@@ -221,11 +224,14 @@ impl<S: Store> Device<S> {
 /// And runs, with what they come to:
 /// - `sampled`, `sampled_by_device`: all that isolation asks for holds, by a unit's lock and by the device's lock.
 /// - `needed`: for each thing that isolation asks for, a run that lacks it alone, of which the conclusion is false.
+/// - `either_sampled`: two guests in two orders, each keeping to its units.
+/// - `either_needed`: for each thing that either order asks for, two runs that lack it alone, and end differently.
 /// - `table`: what messages come to on a small device.
 pub fn power_on<S: Store>(number: u32, map: UnitMap, store: S) -> Device<S>
     ensures made { state S.blocks result ≡ at_power_on number map (S.blocks store) }
     ensures isolation { IsolationFrom (state S.blocks result) }
     ensures apartness { ApartnessFrom (state S.blocks result) }
+    ensures either_order { EitherOrderFrom (state S.blocks result) }
     ensures exclusion { ExclusionFrom (state S.blocks result) }
     ensures waits { WaitsFrom (state S.blocks result) }
     ensures notices { NoticesFrom (state S.blocks result) }
@@ -237,6 +243,8 @@ pub fn power_on<S: Store>(number: u32, map: UnitMap, store: S) -> Device<S>
     ensures sampled { Sampled }
     ensures sampled_by_device { SampledByDevice }
     ensures needed { Needed }
+    ensures either_sampled { EitherSampled }
+    ensures either_needed { EitherNeeded }
     ensures table { Table }
     ensures base { S.base_of result.store ≡ S.base_of store }
 {

@@ -9,18 +9,21 @@ use Rattle.device.specs.Isolation.{IsolationFrom}
 use Rattle.device.specs.Laws.{ApartnessFrom, ExclusionFrom, WaitsFrom}
 use Rattle.device.specs.Notices.{NoticesFrom}
 use Rattle.device.specs.Faults.{FaultsFrom}
+use Rattle.device.specs.Orders.{EitherOrderFrom}
 use Rattle.device.specs.Transfers.{MovingFrom, TransfersFrom}
 use Rattle.device.specs.Describing.{DescribingFrom}
 use Rattle.device.proofs.Laws.{exclusion, waits}
 use Rattle.device.proofs.Runs.{isolation, apartness}
 use Rattle.device.proofs.Notices.{notices_from}
 use Rattle.device.proofs.Faults.{faults_from}
+use Rattle.device.proofs.Orders.{either_order}
 use Rattle.device.proofs.Refusals.{refusals_from}
 use Rattle.device.proofs.States.{sound_on}
 use Rattle.device.proofs.Transfers.{moving_from, transfers_from}
 use Rattle.device.proofs.Describing.{describing_from}
 use Rattle.device.proofs.Sample.{sampled, sampled_by_device}
 use Rattle.device.proofs.Needed.{needed}
+use Rattle.device.proofs.OrdersSample.{either_sampled, either_needed}
 use Rattle.device.proofs.Small.{small_device}
 use Rattle.device.proofs.device.power_on.Goals as goal
 
@@ -38,6 +41,7 @@ returns g c =
       base = refl;
       isolation = subst IsolationFrom (sym made) (isolation n map bs);
       apartness = subst ApartnessFrom (sym made) (apartness n map bs);
+      either_order = subst EitherOrderFrom (sym made) (either_order n map bs);
       exclusion = subst ExclusionFrom (sym made) (exclusion n map bs);
       waits = subst WaitsFrom (sym made) (waits n map bs);
       notices = subst NoticesFrom (sym made) (notices_from n map bs);
@@ -49,5 +53,7 @@ returns g c =
       sampled = sampled;
       sampled_by_device = sampled_by_device;
       needed = needed;
+      either_sampled = either_sampled;
+      either_needed = either_needed;
       table = small_device;
     }
