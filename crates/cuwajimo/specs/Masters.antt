@@ -2,6 +2,7 @@
 use Rattle.std.specs.Prelude.{◌≡◌, ℕ, zero, suc, cond, List, [], ◌++◌, Some, None, Option, nat_le}
 use Rattle.std.specs.Option.{option_map}
 use Rattle.store.specs.Blocks.{Block}
+use Rattle.store.specs.Counts.{most_blocks}
 use Rattle.master.specs.Masters.{master_blocks, master_meaning}
 use Rattle.master.specs.declared.master.Master.{Master}
 use Rattle.cuwajimo.specs.declared.plan.MasterSource.{MasterSource}
@@ -15,7 +16,7 @@ pattern_bytes p (suc n) = pattern_bytes p n ++ pattern_block p n
 
 -- Of more blocks than a master may have nothing is made.
 abbrev pub allotted : ℕ → ℕ
-allotted n = cond (nat_le n 4194304) n 0
+allotted n = cond (nat_le n most_blocks) n 0
 
 -- The memory that a master is brought into, if there is a line of one: the blocks of its pattern; of a file any bytes.
 abbrev pub MasterLoaded : Option MasterSource → Option (List ℕ) → Type 0

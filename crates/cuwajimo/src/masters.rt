@@ -10,6 +10,7 @@ use super::trouble::Trouble;
 use image::check::may_have;
 use master::master::Master;
 use std::alloc::Global;
+use store::count::MOST_BLOCKS;
 use store::store::ReadStore;
 
 /// How many of so many blocks are allotted: none of more than a master may have.
@@ -36,8 +37,9 @@ fn contents(rt: &HostRuntime, file: &ImageFile) -> Result<Vec<u8>, Trouble> {
     let bytes = file.contents(rt)?;
     if Master::new(bytes.as_slice()).size() == 0 {
         let _ = eprintln!(rt;
-            "the master '{}' shows no block: it is not whole blocks of 256 bytes, or has more than 4194304 of them",
-            file.path
+            "the master '{}' shows no block: its {} bytes are not 1 to {MOST_BLOCKS} whole blocks of 256 bytes",
+            file.path,
+            bytes.len()
         );
     }
     Ok(bytes)
