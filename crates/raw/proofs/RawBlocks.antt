@@ -67,7 +67,7 @@ module _ (bytes : List ℕ) (k : ℕ) (new : List ℕ) (inside : 276 * k + 276 �
 
 module _ (bytes spares : List ℕ) (r : ℕ) (p : Protection) where
   abbrev size : ℕ
-  size = raw_size (length bytes) (length spares) r
+  size = raw_size (length bytes) spares r
 
   abbrev at : ℕ → ℕ
   at = raw_record spares r
@@ -87,12 +87,12 @@ module _ (bytes spares : List ℕ) (r : ℕ) (p : Protection) where
       → block_of (marks after b) (datas after b) p ≡ x
       → raw_blocks after spares r p ≡ set (raw_blocks bytes spares r p) b x
   only_record b after x h long others here =
-      ap (λ n. blocks_by (raw_size n (length spares) r) (raw_block after spares r p)) long
+      ap (λ n. blocks_by (raw_size n spares r) (raw_block after spares r p)) long
       ∙ set_numbered size (raw_block bytes spares r p) (raw_block after spares r p) b x (λ _. here) same
     where
       same : (i : ℕ) → i < size → (i ≡ b → ⊥) → raw_block after spares r p i ≡ raw_block bytes spares r p i
       same i l ne =
-          let e = others (at i) (record_apart spares r (records_two (length bytes) (length spares) r b h) i b ne) in
+          let e = others (at i) (record_apart spares r (records_two (length bytes) spares r b h) i b ne) in
           let f : get_or after (276 * at i) 0 ≡ get_or bytes (276 * at i) 0 = flag_of after (at i) ∙ ap (λ xs. get_or xs 0 0) e ∙ sym (flag_of bytes (at i)) in
           let g : datas after i ≡ datas bytes i = data_of after (at i) ∙ ap (λ xs. part xs 6 256) e ∙ sym (data_of bytes (at i)) in
           ap (λ v. block_of (not (eqb v 0)) (datas after i) p) f ∙ ap (λ xs. block_of (marks bytes i) xs p) g

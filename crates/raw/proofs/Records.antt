@@ -6,8 +6,10 @@ use Rattle.std.specs.List.{position_or_len}
 use Rattle.std.proofs.lemmas.List.Sums.{fails_before_first}
 use Rattle.std.proofs.lemmas.List.Quantifiers.{position-Some}
 use Rattle.std.proofs.lemmas.Bool.Decides.{nat_tests}
-use Rattle.raw.specs.Lengths.{raw_count, raw_size}
-use Rattle.raw.specs.Raw.{place_of, raw_record, is_spare, misplaced, FirstMisplaced, Layout}
+use Rattle.std.specs.Option.{unwrap_or}
+use Rattle.raw.specs.Lengths.{raw_count, misplaced, raw_size}
+use Rattle.raw.specs.Raw.{place_of, raw_record, is_spare, FirstMisplaced, Layout}
+use Rattle.raw.specs.Lawful.{counted_raw}
 
 -- places within one track
 place_below : (s i r : ℕ) → i < r - 1 → place_of s i < r
@@ -26,9 +28,9 @@ place_onto s p r hs hp ne = elim (cases_lt p s) [
 ]
 
 -- what is known of a block that is there
-module _ (n t r b : ℕ) (h : b < raw_size n t r) where
+module _ (n : ℕ) (spares : List ℕ) (r b : ℕ) (h : b < raw_size n spares r) where
   pub records_two : 2 ≤ r
-  records_two = grind (arith, nat_tests)
+  records_two = let k = counted_raw n spares r b h in grind (arith, nat_tests)
 
 module _ (spares : List ℕ) (r : ℕ) (two : 2 ≤ r) where
   abbrev record_of : ℕ → ℕ
@@ -103,7 +105,7 @@ first_misplaced r k spares e =
     let f = position-Some (leb r) spares k 0 e in
     record { is_track = f.0; outside = leb-true r (get_or spares k 0) f.1; earlier = λ i h. leb-false r (get_or spares i 0) (f.2 i h) }
 
-pub laid_out : (n : ℕ) (spares : List ℕ) (r : ℕ) → is_some (raw_count n (length spares) r) ≡ true → misplaced r spares ≡ None → Layout spares r (raw_size n (length spares) r)
+pub laid_out : (n : ℕ) (spares : List ℕ) (r : ℕ) → is_some (raw_count n (length spares) r) ≡ true → misplaced r spares ≡ None → Layout spares r (raw_size n spares r)
 laid_out n spares r some none = record {
   in_order = λ b c l h. record_order spares r two b c l;
   never_spare = λ b t h l. never_spare spares r two b t (all_placed r spares none t l);
@@ -113,10 +115,13 @@ laid_out n spares r some none = record {
     two : 2 ≤ r
     two = grind (arith, nat_tests)
 
-    size : raw_size n (length spares) r ≡ length spares * (r - 1)
-    size = grind (arith, nat_tests)
+    counted : unwrap_or (raw_count n (length spares) r) 0 ≡ length spares * (r - 1)
+    counted = grind (arith, nat_tests)
 
-    found : (t p : ℕ) → t < length spares → (b : ℕ) × (b / (r - 1) ≡ t) × (raw_record spares r b ≡ t * r + p) → (b : ℕ) × (b < raw_size n (length spares) r) × (raw_record spares r b ≡ t * r + p)
+    size : raw_size n spares r ≡ length spares * (r - 1)
+    size = rw none counted
+
+    found : (t p : ℕ) → t < length spares → (b : ℕ) × (b / (r - 1) ≡ t) × (raw_record spares r b ≡ t * r + p) → (b : ℕ) × (b < raw_size n spares r) × (raw_record spares r b ≡ t * r + p)
     found t p h f =
         let b = f.0 in
         let l : b < length spares * (r - 1) = omega (arith, div-add-mod' b (r - 1), mod_below b (r - 1) (omega (arith, two)), ap (λ q. q * (r - 1)) f.1, add-mul t 1 (r - 1), mul-le (t + 1) (r - 1) (length spares) (r - 1) (omega arith) (omega arith)) in

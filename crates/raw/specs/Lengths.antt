@@ -1,5 +1,5 @@
--- Which length of memory fits its tracks, and how many blocks it has.
-use Rattle.std.specs.Prelude.{ℕ, ◌-◌, ◌*◌, Bool, cond, ◌&&◌, Some, None, Option, ◌==◌, nat_le}
+-- Which memory and spare places are an image, and how many blocks it has.
+use Rattle.std.specs.Prelude.{ℕ, ◌-◌, ◌*◌, Bool, cond, ◌&&◌, List, length, is_some, Some, None, Option, ◌==◌, nat_le, position}
 use Rattle.std.specs.Option.{unwrap_or}
 use Rattle.store.specs.Counts.{most_blocks}
 
@@ -15,6 +15,10 @@ raw_fits bytes tracks records = records_fit records && (bytes == 276 * (records 
 abbrev pub raw_count : ℕ → ℕ → ℕ → Option ℕ
 raw_count bytes tracks records = cond (raw_fits bytes tracks records) (Some (tracks * (records - 1))) None
 
--- Where they do not fit there are none.
-abbrev pub raw_size : ℕ → ℕ → ℕ → ℕ
-raw_size bytes tracks records = unwrap_or (raw_count bytes tracks records) 0
+-- The first track whose spare place is not in the track.
+abbrev pub misplaced : ℕ → List ℕ → Option ℕ
+misplaced records spares = position (nat_le records) spares
+
+-- How many blocks an image over memory of such a length has: none where lengths do not fit, or a spare place is not in its track.
+abbrev pub raw_size : ℕ → List ℕ → ℕ → ℕ
+raw_size bytes spares records = cond (is_some (misplaced records spares)) 0 (unwrap_or (raw_count bytes (length spares) records) 0)

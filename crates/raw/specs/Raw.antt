@@ -1,5 +1,5 @@
 -- What a raw image means: memory of whole records in tracks, and one byte a track that tells its spare record.
-use Rattle.std.specs.Prelude.{◌≡◌, ℕ, ◌+◌, ◌-◌, ◌*◌, ◌/◌, ◌%◌, ◌<◌, ◌≤◌, Bool, cond, not, List, ◌++◌, length, map, Some, None, Option, ◌==◌, ◌≢◌, nat_le, nat_lt, position, slice_index, slice_index_or, slice_set}
+use Rattle.std.specs.Prelude.{◌≡◌, ℕ, ◌+◌, ◌-◌, ◌*◌, ◌/◌, ◌%◌, ◌<◌, ◌≤◌, Bool, cond, not, List, ◌++◌, length, map, Some, None, Option, ◌==◌, ◌≢◌, nat_lt, slice_index, slice_index_or, slice_set}
 use Rattle.std.specs.List.{slice_get, range_with_len}
 use Rattle.store.specs.declared.fault.Protection.{Protection}
 use Rattle.store.specs.declared.fault.Protection.TheVariants as protections
@@ -9,7 +9,7 @@ use Rattle.image.specs.declared.refusal.Refusal.{Refusal}
 use Rattle.image.specs.declared.refusal.Refusal.TheVariants as refusals
 use Rattle.image.specs.Memory.{part, laid}
 use Rattle.image.specs.Images.{block_of, blocks_by, unless_refused}
-use Rattle.raw.specs.Lengths.{records_fit, raw_fits, raw_size}
+use Rattle.raw.specs.Lengths.{records_fit, raw_fits, misplaced, raw_size}
 
 -- The blocks of a track are its records in order, the spare one passed over: so block i of a track is at place i before the spare place, and at i + 1 from there on.
 abbrev pub place_of : ℕ → ℕ → ℕ
@@ -24,9 +24,9 @@ abbrev pub raw_block : List ℕ → List ℕ → ℕ → Protection → ℕ → 
 raw_block bytes spares records protection b =
     block_of (not (slice_index bytes (276 * raw_record spares records b) == 0)) (part bytes (276 * raw_record spares records b + 6) 256) protection
 
--- All blocks of memory and spare places, as many as their lengths make, each with the image's protection.
+-- All blocks of memory and spare places, as many as an image over them has, each with the image's protection.
 abbrev pub raw_blocks : List ℕ → List ℕ → ℕ → Protection → List Block
-raw_blocks bytes spares records protection = blocks_by (raw_size (length bytes) (length spares) records) (raw_block bytes spares records protection)
+raw_blocks bytes spares records protection = blocks_by (raw_size (length bytes) spares records) (raw_block bytes spares records protection)
 
 -- The memory with new data in a record and its header byte 0 at 0; the other header bytes, CRC and ECC stay.
 abbrev pub with_data : List ℕ → ℕ → List ℕ → List ℕ
@@ -35,10 +35,6 @@ with_data bytes record_number new = laid (slice_set bytes (276 * record_number) 
 -- The memory with a record's header byte 0 at 1.
 abbrev pub with_flag : List ℕ → ℕ → List ℕ
 with_flag bytes record_number = slice_set bytes (276 * record_number) 1
-
--- The first track whose spare place is not in the track.
-abbrev pub misplaced : ℕ → List ℕ → Option ℕ
-misplaced records spares = position (nat_le records) spares
 
 -- A track whose spare place is not in it is a refusal that names the track; where there is none, nothing is refused.
 abbrev pub spare_refusal : Option ℕ → Option Refusal

@@ -26,17 +26,17 @@ pub struct RawImage<'a> {
     records: u32,
     protection: Protection,
     count: u32,
-    ghost counted: { count ≡ raw_size (length bytes.now) (length spares.now) records },
+    ghost counted: { count ≡ raw_size (length bytes.now) spares.now records },
 }
 
 impl<'a> RawImage<'a> {
-    ghost use Rattle.raw.specs.Raw.{raw_meaning, image_record, raw_refusal, raw_blocks, raw_base, with_flag, Layout, RawHolds, SpareTold};
+    ghost use Rattle.raw.specs.Raw.{raw_meaning, image_record, raw_offered, raw_refusal, raw_base, with_flag, Layout, RawHolds, SpareTold};
 
     /// Tells whether memory of this length, in bytes, is an image with these spare places, one byte a track, and so many
     /// records a track: `Ok`, or the refusal.
     pub fn check(bytes: usize, spares: &[u8], records: u32) -> Result<(), Refusal>
         ensures answer { result_err result ≡ raw_refusal bytes spares.now records }
-        ensures law { MatchResult result (λ _. Layout spares.now records (raw_size bytes (length spares.now) records)) (SpareTold spares.now records) }
+        ensures law { MatchResult result (λ _. Layout spares.now records (raw_size bytes spares.now records)) (SpareTold spares.now records) }
     {
         if !records_fit(records) {
             return Err(Refusal::Records);
@@ -48,8 +48,8 @@ impl<'a> RawImage<'a> {
         }
     }
 
-    /// Takes memory and spare places as an image. Where their lengths or the records do not fit, it has no blocks; a spare
-    /// place that is not in its track, which `check` refuses too, is behind each of its blocks.
+    /// Takes memory and spare places, one byte a track, as an image of so many records a track. Where `check` refuses them, it
+    /// has no blocks.
     pub fn over(
         bytes: &'a mut [u8],
         spares: &'a [u8],
@@ -58,10 +58,13 @@ impl<'a> RawImage<'a> {
     ) -> RawImage<'a>
         ensures memory { (result.bytes.now ≡ bytes.old) × (result.spares.now ≡ spares.now) × (result.records ≡ records) × (result.protection ≡ protection) }
         ensures bytes_name { result.bytes.ghost_name ≡ bytes.entry.ghost_name }
-        ensures blocks { raw_meaning result ≡ raw_blocks bytes.old spares.now records protection }
+        ensures blocks { raw_meaning result ≡ raw_offered bytes.old spares.now records protection }
         ensures law { RawHolds bytes.old spares.now records (raw_meaning result) }
     {
-        let count = raw_count(bytes.len(), spares.len(), records).unwrap_or(0);
+        let count = match RawImage::check(bytes.len(), spares, records) {
+            Ok(()) => raw_count(bytes.len(), spares.len(), records).unwrap_or(0),
+            Err(_) => 0,
+        };
         RawImage {
             bytes,
             spares,
@@ -102,7 +105,7 @@ impl<'a> RawImage<'a> {
 
     /// How many blocks there are.
     fn count(&self) -> u32
-        ensures size { result ≡ raw_size (length self.now.bytes.now) (length self.now.spares.now) self.now.records }
+        ensures size { result ≡ raw_size (length self.now.bytes.now) self.now.spares.now self.now.records }
         ensures blocks { result ≡ length (raw_meaning self.now) }
     {
         self.count
@@ -110,7 +113,7 @@ impl<'a> RawImage<'a> {
 
     /// The byte at which the record of a block begins.
     fn start(&self, block: u32) -> usize
-        requires { block < raw_size (length self.now.bytes.now) (length self.now.spares.now) self.now.records }
+        requires { block < raw_size (length self.now.bytes.now) self.now.spares.now self.now.records }
         ensures value { result ≡ 276 * image_record self.now block }
         ensures inside { result + 276 ≤ length self.now.bytes.now }
     {

@@ -1,5 +1,6 @@
 ghost use Rattle.std.specs.Prelude.{◌≡◌, ◌-◌, ◌*◌, ◌/◌, ◌<◌, ◌≤◌, length};
-ghost use Rattle.raw.specs.Raw.{misplaced, raw_record};
+ghost use Rattle.raw.specs.Lengths.{misplaced};
+ghost use Rattle.raw.specs.Raw.{raw_record};
 
 /// The bytes of a record: its header, the block's data, CRC and ECC.
 pub(super) const RECORD_BYTES: usize = 276;

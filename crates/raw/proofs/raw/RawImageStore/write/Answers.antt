@@ -16,7 +16,7 @@ returns-in_err-permit c = let s = c.args.self.now in let e = raw_writes s.bytes.
 pub returns : goal.returns
 returns c =
     let s = c.args.self.now in
-    let h : c.args.block < raw_size (length s.bytes.now) (length s.spares.now) s.records = search rules in
+    let h : c.args.block < raw_size (length s.bytes.now) s.spares.now s.records = search rules in
     let w : length c.args.bytes.now ≡ 256 = search rules in
     let e = raw_wrote s.bytes.now s.spares.now s.records s.protection c.args.block c.args.bytes.now h w (permitted c.args.block s.protection (sym c.permit.ensures ∙ c.in_ok-permit.was)) in
     let g = writes_record s.bytes.now (raw_record s.spares.now s.records c.args.block) c.args.bytes.now (inside_raw s.spares.now (length s.bytes.now) s.records c.args.block h) w in
@@ -24,7 +24,7 @@ returns c =
     let l = laid_over (set s.bytes.now (276 * raw_record s.spares.now s.records c.args.block) 0) from (from + 256 - from) c.args.bytes.now (omega arith) in
     let k = c.start-at.ensures.inside in
     let done = c.copy_block.ensures ∙ copied _ _ w (simp (length-take, length-drop, length-set) (omega (arith, k))) in
-    let two = records_two (length s.bytes.now) (length s.spares.now) s.records c.args.block h in
+    let two = records_two (length s.bytes.now) s.spares.now s.records c.args.block h in
     let number = raw_record s.spares.now s.records c.args.block in
     let r = rest_stays s.bytes.now (with_data s.bytes.now number c.args.bytes.now) s.spares.now s.records number g.others g.header g.trailer (no_spare s.spares.now s.records two c.args.block) in
     search rules
