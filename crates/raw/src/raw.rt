@@ -58,6 +58,7 @@ impl<'a> RawImage<'a> {
     ) -> RawImage<'a>
         ensures memory { (result.bytes.now ≡ bytes.old) × (result.spares.now ≡ spares.now) × (result.records ≡ records) × (result.protection ≡ protection) }
         ensures bytes_name { result.bytes.ghost_name ≡ bytes.entry.ghost_name }
+        ensures spares_reference { result.spares ≡ spares.entry }
         ensures blocks { raw_meaning result ≡ raw_offered bytes.old spares.now records protection }
         ensures law { RawHolds bytes.old spares.now records (raw_meaning result) }
     {
